@@ -1,0 +1,63 @@
+-- The transposed table stands for the transposed matrix.
+use mathlib.Core.Path.{_≡_, sym, _∙_, ap, ap₂}
+use Prim.Native.Nat.{ℕ, zero, suc, _<_, _+_, _-_}
+use native.Mathlib.Omega.{arith}
+use native.Mathlib.Decide.{decLt}
+use borrow.Author.Tests.{lt-ltb, le-ltb}
+use Rattle.algebra.specs.Ring.{Ring}
+use Rattle.algebra.specs.Sums.{act, dot}
+use Rattle.algebra.specs.Generators.{Gens, below, above, entryOf, transposeG}
+use Rattle.algebra.specs.SumLaws.{dot-swap, dot-comm}
+
+module _ {K : Ring} (r s : ℕ → ℕ) (c : ℕ → Gens K) where
+  -- b(i) … b(i + n − 1) w
+  up : ℕ → ℕ → (ℕ → K .car) → ℕ → K .car
+  up zero i w = w
+  up (suc n) i w = act K (s (suc i)) (c i .b) (up n (suc i) w)
+
+  above-up : (n i : ℕ) → above r s c n i ≡ up n i (c (n + i) .h)
+  unfolding above up
+  above-up zero i = let e : 0 + i ≡ i = omega arith in ap (λ (k : ℕ). c k .h) (sym e)
+  above-up (suc n) i = let e : n + suc i ≡ suc n + i = omega arith in
+      ap (act K (s (suc i)) (c i .b)) (above-up n (suc i) ∙ ap (λ (k : ℕ). up n (suc i) (c k .h)) e)
+
+  up-last : (n i : ℕ) (w : ℕ → K .car) → up (suc n) i w ≡ up n i (act K (s (suc (n + i))) (c (n + i) .b) w)
+  unfolding up
+  up-last zero i w = let e : 0 + i ≡ i = omega arith in ap (λ (k : ℕ). act K (s (suc k)) (c k .b) w) (sym e)
+  up-last (suc n) i w = let e : n + suc i ≡ suc n + i = omega arith in
+      ap (act K (s (suc i)) (c i .b)) (up-last n (suc i) w ∙ ap (λ (k : ℕ). up n (suc i) (act K (s (suc k)) (c k .b) w)) e)
+
+  -- g(j) b(j + 1) … b(j + n) w, from either end
+  flipped : (n j m : ℕ) → m ≡ suc (n + j) → (w : ℕ → K .car) → dot K (s m) (below s r (λ k. transposeG (c k)) n j) w ≡ dot K (s (suc j)) (c j .g) (up n (suc j) w)
+  unfolding below up
+  flipped zero j m e w = let f : m ≡ suc j = omega arith in rw f
+  flipped (suc n) j m e w =
+      let f : suc (n + suc j) ≡ m = omega arith in
+      let g : n + suc j ≡ suc n + j = omega arith in
+      dot-swap K (s m) (s (suc n + j)) (c (suc n + j) .b) (below s r (λ k. transposeG (c k)) n j) w
+      ∙ flipped n j (suc n + j) (omega arith) (λ l. dot K (s m) (c (suc n + j) .b l) w)
+      ∙ ap (dot K (s (suc j)) (c j .g)) (sym (up-last n (suc j) w ∙ ap₂ (λ (x y : ℕ). up n (suc j) (act K (s x) (c y .b) w)) f g))
+
+module _ {K : Ring} (r s : ℕ → ℕ) (c : ℕ → Gens K) where
+  lower-is : (i j : ℕ) → j < i → dot K (s i) (c i .h) (below s r (λ k. transposeG (c k)) (i - suc j) j) ≡ dot K (s (suc j)) (c j .g) (above r s c (i - suc j) (suc j))
+  lower-is i j l =
+      let e : (i - suc j) + suc j ≡ i = omega arith in
+      dot-comm K (s i) _ _ ∙ flipped r s c (i - suc j) j i (omega arith) (c i .h)
+      ∙ ap (dot K (s (suc j)) (c j .g)) (ap (λ (k : ℕ). up r s c (i - suc j) (suc j) (c k .h)) (sym e) ∙ sym (above-up r s c (i - suc j) (suc j)))
+
+  below-case : (i j : ℕ) → j < i → entryOf s r (λ k. transposeG (c k)) i j ≡ entryOf r s c j i
+  unfolding entryOf
+  below-case i j l = rw (lt-ltb j i l, le-ltb i j (omega arith)) (lower-is i j l)
+
+module _ {K : Ring} (r s : ℕ → ℕ) (c : ℕ → Gens K) where
+  diagonal : (i j : ℕ) → i ≡ j → entryOf s r (λ k. transposeG (c k)) i j ≡ entryOf r s c j i
+  unfolding entryOf
+  diagonal i j e = rw (le-ltb j i (omega arith), le-ltb i j (omega arith)) (ap (λ (k : ℕ). c k .d) e)
+
+  pub transpose-matrix : (i j : ℕ) → entryOf s r (λ k. transposeG (c k)) i j ≡ entryOf r s c j i
+  transpose-matrix i j = go (decLt j i) (decLt i j)
+    where
+      go : Dec (j < i) → Dec (i < j) → entryOf s r (λ k. transposeG (c k)) i j ≡ entryOf r s c j i
+      go (yes l) m = below-case r s c i j l
+      go (no n) (yes l) = sym (below-case s r (λ k. transposeG (c k)) j i l)
+      go (no n) (no m) = diagonal i j (omega arith)

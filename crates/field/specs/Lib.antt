@@ -1,0 +1,10 @@
+pub mod Modulo
+pub mod Prime
+pub mod PrimeTest
+pub mod Wheel
+pub mod WheelLaws
+pub mod Residue
+pub mod Fit
+pub mod Reciprocal
+pub mod Bridge
+pub mod Euclid
