@@ -1,0 +1,1 @@
+// No code: the definitions that every contract cites, and the theorems about them, in specs/.

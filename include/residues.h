@@ -1,0 +1,87 @@
+/* residues: linear algebra modulo a prime on matrices given by generators.
+ *
+ * A table of N rows, lower order r and upper order s has N * w words, w = 1 + 2r + r*r + 2s + s*s, row by row; a row holds
+ * d, p, a, q, g, b, h, blocks row by row. Never used, and of any value: p, a, b, h of row 1 and a, q, g, b of row N.
+ * Row 1 is a row like the others: its d and q, g are used.
+ *
+ * Every call takes any numbers and any buffers, each as a pointer and a count of words. A buffer that is written may overlap
+ * no other; two that are only read may be the same. A refusal leaves every buffer as it was. Words past what a call needs
+ * are neither read nor written. Calls share nothing, so they may run at the same time.
+ */
+#ifndef RESIDUES_H
+#define RESIDUES_H
+
+#include <stddef.h>
+#include <stdint.h>
+
+#ifdef __cplusplus
+extern "C" {
+#endif
+
+/* The numbers of a reply. */
+enum {
+    RESIDUES_OK = 0,             /* accepted */
+    RESIDUES_BAD_PRIME = 1,      /* p is no prime from 2 to 2147483647 */
+    RESIDUES_BAD_SIZE = 2,       /* n is not 1 to 1024 */
+    RESIDUES_BAD_ORDER = 3,      /* an order above 8; beside it the table's buffer */
+    RESIDUES_SHORT_BUFFER = 4,   /* a buffer shorter than needed; beside it the lowest such buffer */
+    RESIDUES_BAD_WORD = 5,       /* a word that is read is not below p; beside it the lowest such buffer, its first such row; 0, 0: c */
+    RESIDUES_BAD_ORDER_SUM = 6,  /* orders that add up to more than 8 */
+    RESIDUES_ZERO_PIVOT = 7,     /* a leading corner is singular; beside it 1 and the least such row */
+    RESIDUES_BAD_PLACE = 8,      /* i or j is not 1 to n */
+    RESIDUES_BAD_LENGTH = 9,     /* a file under 20 bytes, or of the wrong length */
+    RESIDUES_BAD_CHAIN = 10      /* a file's chain is wrong; beside it the rows read so far */
+};
+
+/* The buffers that a reply names. */
+enum {
+    RESIDUES_NO_BUFFER = 0,
+    RESIDUES_TABLE = 1,
+    RESIDUES_SECOND_TABLE = 2,
+    RESIDUES_COLUMN = 3,
+    RESIDUES_WORK = 4,
+    RESIDUES_RESULT = 5,
+    RESIDUES_FILE = 6
+};
+
+/* A reply taken apart. */
+static inline uint32_t residues_number(uint64_t reply) { return (uint32_t)(reply & 255u); }
+static inline uint32_t residues_buffer(uint64_t reply) { return (uint32_t)(reply >> 8 & 255u); }
+static inline uint32_t residues_row(uint64_t reply) { return (uint32_t)(reply >> 16 & 65535u); }
+static inline uint32_t residues_value(uint64_t reply) { return (uint32_t)(reply >> 32); }
+
+/* The words of a row, and of a table of n rows. */
+static inline size_t residues_row_words(uint32_t r, uint32_t s) { return 1 + 2 * (size_t)r + (size_t)r * r + 2 * (size_t)s + (size_t)s * s; }
+static inline size_t residues_table_words(uint32_t n, uint32_t r, uint32_t s) { return (size_t)n * residues_row_words(r, s); }
+
+/* The entry at (i, j), from 1, as the reply's value. Reads the table. Refuses 1, 2, 3, 8, 4, 5. */
+uint64_t residues_entry(uint32_t p, uint32_t n, uint32_t r, uint32_t s, uint32_t i, uint32_t j,
+                        const uint32_t *table, size_t table_len);
+
+/* The whole matrix, n * n words, row by row, to the result. Reads the table. Refuses 1, 2, 3, 4, 5. */
+uint64_t residues_matrix(uint32_t p, uint32_t n, uint32_t r, uint32_t s,
+                         const uint32_t *table, size_t table_len, uint32_t *result, size_t result_len);
+
+/* The table times the column, n words, to the result. Reads the table and the column. Refuses 1, 2, 3, 4, 5. */
+uint64_t residues_apply(uint32_t p, uint32_t n, uint32_t r, uint32_t s,
+                        const uint32_t *table, size_t table_len, const uint32_t *column, size_t column_len,
+                        uint32_t *result, size_t result_len);
+
+/* The transposed table times the column, n words, to the result. Reads the table and the column. Refuses 1, 2, 3, 4, 5. */
+uint64_t residues_apply_transpose(uint32_t p, uint32_t n, uint32_t r, uint32_t s,
+                                  const uint32_t *table, size_t table_len, const uint32_t *column, size_t column_len,
+                                  uint32_t *result, size_t result_len);
+
+/* The transposed table, of orders s and r, to the result: as many words as the table has. Refuses 1, 2, 3, 4, 5. */
+uint64_t residues_transpose(uint32_t p, uint32_t n, uint32_t r, uint32_t s,
+                            const uint32_t *table, size_t table_len, uint32_t *result, size_t result_len);
+
+/* The table of c times the matrix, of the same orders, to the result. Reads the table. Refuses 1, 2, 3, 4, 5 (c first: 0, 0). */
+uint64_t residues_multiple(uint32_t p, uint32_t n, uint32_t r, uint32_t s, uint32_t c,
+                           const uint32_t *table, size_t table_len, uint32_t *result, size_t result_len);
+
+#ifdef __cplusplus
+}
+#endif
+
+#endif
