@@ -3,13 +3,12 @@ use mathlib.Core.Logic.{_≢_}
 use mathlib.Core.Path.{_≡_, refl, sym, ap, _∙_}
 use mathlib.Core.List.{List}
 use Prim.Native.Nat.{ℕ, suc, _+_, _-_, _*_, _<_, _≤_}
-use native.Mathlib.Nat.{mul-le-mul}
+use native.Mathlib.Nat.{mul-le-mul, mul-le-mul-right}
 use native.Mathlib.Omega.{arith}
-use lib.Arith.{digits-lt}
 use lib.ListN.{length, getD}
 use Rattle.field.specs.Fit.{Fit}
 use Rattle.field.specs.Residue.{residues, val, val-small, prime-pos}
-use Rattle.table.specs.Words.{Table, table, gap, width}
+use Rattle.table.specs.Words.{Table, table, gap, width, matrixOf}
 use Rattle.table.specs.Replies.{Reply, accept, answer}
 use Rattle.table.specs.Results.{entryW}
 use Rattle.table.specs.Calls.{entryChecks, entryReply}
@@ -61,16 +60,20 @@ module _ (P N r s : ℕ) (t : List ℕ) (w : ℕ) (ew : (w ≡ width r s) × (w 
     unfolding entryW
     above-yields eh l m e = (rw (ew .0, eh) at e) ∙ ap (val P) (entry-above-is P r s t N i j l m)
 
-  -- The first word of row i lies in the table, and is the entry on the diagonal.
-  pub diagonal-near : i < N → i * w ≤ 164864
-  diagonal-near l = let z : i ≤ 1024 = omega (arith, g .most) in mul-le-mul z (ew .1)
+-- The first word of row i lies in the table, and is the entry on the diagonal.
+module _ (P N r s : ℕ) (t : List ℕ) (g : Good P N (table r s t)) (w : ℕ) (ew : (w ≡ width r s) × (w ≤ 161)) (i : ℕ) (h : i < N) where
+  pub diagonal-near : i * w ≤ 164864
+  diagonal-near = let z : i ≤ 1024 = omega (arith, g .most) in mul-le-mul z (ew .1)
 
-  pub diagonal-lies : i < N → i * w < length t
-  diagonal-lies l = let z : i * w + 0 < N * w = digits-lt l (rw (ew .0) (omega arith)) in let y : N * w ≤ length t = rw (ew .0) (g .long) in omega arith
+  pub diagonal-lies : i * w < length t
+  diagonal-lies = rw (ew .0) (let m = mul-le-mul-right (width r s) h in omega (arith, m, g .long))
 
-  pub diagonal-yields : j ≤ i → i ≤ j → i < N → getD t (i * w) 0 ≡ entryW P N (table r s t) i j
+  pub diagonal-word : (j : ℕ) → i ≡ j → getD t (i * w) 0 ≡ val P (matrixOf P N (table r s t) i j)
+  diagonal-word j e =
+      let z : i * width r s ≡ i * width r s + 0 = omega arith in
+      let q : getD t (i * width r s) 0 < P = rw z (lower-down P N r s t g .diagonal i h .1) in
+      rw (ew .0) (sym (val-small P (prime-pos P (g .prime)) _ q) ∙ ap (val P) (entry-diagonal-is P r s t N i j e h))
+
+  pub diagonal-yields : (j : ℕ) → j ≤ i → i ≤ j → getD t (i * w) 0 ≡ entryW P N (table r s t) i j
   unfolding entryW
-  diagonal-yields k l m = rw (ew .0) (sym (val-small P (prime-pos P (g .prime)) _ small) ∙ ap (val P) (entry-diagonal-is P r s t N i j (omega arith) m))
-    where
-      small : getD t (i * width r s) 0 < P
-      small = let z : i * width r s + 0 ≡ i * width r s = omega arith in rw z at (lower-down P N r s t g .diagonal i m .1)
+  diagonal-yields j k l = diagonal-word j (omega arith)

@@ -1,12 +1,11 @@
 -- The rows of the matrix: what their walks ask, and what they leave.
-use mathlib.Core.Path.{_≡_, refl, sym, ap, _∙_}
+use mathlib.Core.Path.{_≡_, refl, ap, _∙_}
 use mathlib.Core.List.{List, _++_, append-nil}
 use Prim.Native.Nat.{ℕ, suc, _+_, _-_, _*_, _<_, _≤_}
-use native.Mathlib.Nat.{mul-le-mul-right}
 use native.Mathlib.Omega.{arith}
-use lib.ListN.{length, getD, drop, set, length-set}
+use lib.ListN.{length, drop, set, length-set}
 use lib.Seq.{drop-length}
-use Rattle.field.specs.Residue.{residues, val, val-small, prime-pos}
+use Rattle.field.specs.Residue.{residues, val}
 use Rattle.field.specs.Fit.{Fit}
 use Rattle.lists.specs.Lists.{tabulate, rowsOf, putAt}
 use Rattle.lists.specs.ListLaws.{length-tabulate, length-rows, tabulate-same}
@@ -20,8 +19,8 @@ use Rattle.sweeps.specs.Half.{halfGens, HalfReads, entryBelow, entryAbove}
 use Rattle.sweeps.specs.Halves.{lowerHalf, upperHalf, transposedHalf}
 use Rattle.rows.specs.PutLaws.{put-add}
 use Rattle.calls.specs.Passed.{Good}
-use Rattle.calls.specs.Reads.{lower-down, lower-up, upper-down}
-use Rattle.calls.specs.Link.{entry-diagonal-is, row-before-is, row-after-is}
+use Rattle.calls.specs.Reads.{lower-up, upper-down}
+use Rattle.calls.specs.Link.{row-before-is, row-after-is}
 use Rattle.calls.specs.Finish.{accepted-leaves}
 use Rattle.calls.specs.ApplyLaws.{upper-sizes}
 
@@ -52,16 +51,6 @@ module _ (n i : ℕ) (f : ℕ → ℕ) (d a : List ℕ) (l : length d ≡ n) (h 
 
 -- By the width and the half that code holds.
 module _ (P N r s : ℕ) (t : List ℕ) (g : Good P N (table r s t)) (w : ℕ) (ew : (w ≡ width r s) × (w ≤ 161)) (i : ℕ) (h : i < N) where
-  -- the word on the diagonal
-  pub diagonal-lies : i * w < length t
-  diagonal-lies = rw (ew .0) (let m = mul-le-mul-right (width r s) h in omega (arith, m, g .long))
-
-  pub diagonal-word : getD t (i * w) 0 ≡ rowWord P N r s t i i
-  diagonal-word =
-      let z : i * width r s ≡ i * width r s + 0 = omega arith in
-      let q : getD t (i * width r s) 0 < P = rw z (lower-down P N r s t g .diagonal i h .1) in
-      rw (ew .0) (sym (val-small P (prime-pos P (g .prime)) _ q) ∙ ap (val P) (entry-diagonal-is P r s t N i i refl h))
-
   module _ (reciprocal : ℕ) (fit : Fit P reciprocal) (d : List ℕ) (l : length d ≡ N) (k : Half) where
     -- what the walk up asks; and the walk down, once word i is written
     pub before-asks : k ≡ transposedHalf (lowerHalf r)

@@ -21,7 +21,7 @@ entry-word-spec =
     above-asks (a .m .p) (a .n) (a .r) (a .s) (now (a .t)) (c .before .before .before .row-width .result) (c .before .before .before .row-width .ensures) (q .1) (a .i) (a .j) (a .m .reciprocal) (q .0) (c .upper .result) (c .upper .ensures) (c .before .if2 .taken) (q .3))
     (λ c. let a = c .before .before .before .before .before .before .args in let q = c .before .before .before .before .before .before .pre in
     above-yields (a .m .p) (a .n) (a .r) (a .s) (now (a .t)) (c .before .before .before .before .row-width .result) (c .before .before .before .before .row-width .ensures) (q .1) (a .i) (a .j) (c .before .upper .result) (c .entry-above .result) (c .before .upper .ensures) (c .before .before .if2 .taken) (q .3) (c .entry-above .ensures))
-    (λ c. let a = c .before .before .before .before .args in let q = c .before .before .before .before .pre in omega (arith, diagonal-near (a .m .p) (a .n) (a .r) (a .s) (now (a .t)) (c .before .before .row-width .result) (c .before .before .row-width .ensures) (q .1) (a .i) (a .j) (q .2)))
-    (λ c. let a = c .before .before .before .before .args in let q = c .before .before .before .before .pre in omega (arith, diagonal-near (a .m .p) (a .n) (a .r) (a .s) (now (a .t)) (c .before .before .row-width .result) (c .before .before .row-width .ensures) (q .1) (a .i) (a .j) (q .2)))
-    (λ c. let a = c .before .before .before .before .before .args in let q = c .before .before .before .before .before .pre in diagonal-lies (a .m .p) (a .n) (a .r) (a .s) (now (a .t)) (c .before .before .before .row-width .result) (c .before .before .before .row-width .ensures) (q .1) (a .i) (a .j) (q .2))
-    (λ c. let a = c .before .before .before .before .before .args in let q = c .before .before .before .before .before .pre in diagonal-yields (a .m .p) (a .n) (a .r) (a .s) (now (a .t)) (c .before .before .before .row-width .result) (c .before .before .before .row-width .ensures) (q .1) (a .i) (a .j) (c .before .if2 .left) (c .before .before .if1 .left) (q .2)))
+    (λ c. let a = c .before .before .before .before .args in let q = c .before .before .before .before .pre in omega (arith, diagonal-near (a .m .p) (a .n) (a .r) (a .s) (now (a .t)) (q .1) (c .before .before .row-width .result) (c .before .before .row-width .ensures) (a .i) (q .2)))
+    (λ c. let a = c .before .before .before .before .args in let q = c .before .before .before .before .pre in omega (arith, diagonal-near (a .m .p) (a .n) (a .r) (a .s) (now (a .t)) (q .1) (c .before .before .row-width .result) (c .before .before .row-width .ensures) (a .i) (q .2)))
+    (λ c. let a = c .before .before .before .before .before .args in let q = c .before .before .before .before .before .pre in diagonal-lies (a .m .p) (a .n) (a .r) (a .s) (now (a .t)) (q .1) (c .before .before .before .row-width .result) (c .before .before .before .row-width .ensures) (a .i) (q .2))
+    (λ c. let a = c .before .before .before .before .before .args in let q = c .before .before .before .before .before .pre in diagonal-yields (a .m .p) (a .n) (a .r) (a .s) (now (a .t)) (q .1) (c .before .before .before .row-width .result) (c .before .before .before .row-width .ensures) (a .i) (q .2) (a .j) (c .before .if2 .left) (c .before .before .if1 .left)))

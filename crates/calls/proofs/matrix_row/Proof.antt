@@ -1,6 +1,6 @@
 -- `calls::matrix_row` meets its contract.
 use borrow.Author.Needs.{needs}
-use mathlib.Core.Path.{_≡_, sym, ap, _∙_}
+use mathlib.Core.Path.{_≡_, refl, sym, ap, _∙_}
 use native.Mathlib.Omega.{arith}
 use Prim.Native.Nat.{_*_, _<_}
 use lib.ListN.{length, getD}
@@ -8,7 +8,8 @@ use denote.Ref.{now}
 use Rattle.lists.specs.Lists.{tabulate, putAt}
 use Rattle.lists.specs.ListLaws.{length-tabulate}
 use Rattle.sweeps.specs.Halves.{transposedHalf}
-use Rattle.calls.specs.MatrixLaws.{rowWord, before-length, all-written, diagonal-lies, diagonal-word, before-asks, after-asks, before-leaves, after-leaves}
+use Rattle.calls.specs.EntryLaws.{diagonal-lies, diagonal-word}
+use Rattle.calls.specs.MatrixLaws.{rowWord, before-length, all-written, before-asks, after-asks, before-leaves, after-leaves}
 use Rattle.calls.proofs.matrix_row.Statement.{statement}
 use Rattle.calls.proofs.matrix_row.Tie as tie
 
@@ -27,7 +28,7 @@ lies c = let a = c .before .before .before .before .before .before .before .args
 -- the whole row is written
 written : (c : tie.After-fill-after) → let a = c .before .before .before .before .before .before .before .before .before .before .before .before .before .before .args in c .fill-after .last .1 .1 .1 .1 .1 .1 .0 ≡ tabulate (a .n) (rowWord (a .m .p) (a .n) (a .r) (a .s) (now (a .t)) (a .i))
 written c = let a = c .before .before .before .before .before .before .before .before .before .before .before .before .before .before .args in let q = c .before .before .before .before .before .before .before .before .before .before .before .before .before .before .pre in let w = c .before .before .before .before .before .before .before .before .before .before .before .row-width .result in let ew = c .before .before .before .before .before .before .before .before .before .before .before .row-width .ensures in let e = walked (c .before .before .before .before .before .before .before) in
-    all-written (a .n) (a .i) (rowWord (a .m .p) (a .n) (a .r) (a .s) (now (a .t)) (a .i)) (now (a .out)) _ (q .3) (q .2) e _ _ (diagonal-word (a .m .p) (a .n) (a .r) (a .s) (now (a .t)) (q .1) w ew (a .i) (q .2))
+    all-written (a .n) (a .i) (rowWord (a .m .p) (a .n) (a .r) (a .s) (now (a .t)) (a .i)) (now (a .out)) _ (q .3) (q .2) e _ _ (diagonal-word (a .m .p) (a .n) (a .r) (a .s) (now (a .t)) (q .1) w ew (a .i) (q .2) (a .i) refl)
     (after-leaves (a .m .p) (a .n) (a .r) (a .s) (now (a .t)) (q .1) w ew (a .i) (q .2) (c .before .before .transposed2 .result) _ _ (c .before .before .transposed2 .ensures ∙ ap transposedHalf (c .before .before .before .upper .ensures)) (c .fill-after .ensures))
 
 pub matrix-row-spec : {M : Type 1} → statement M

@@ -1,0 +1,455 @@
+/* Every call on buffers that lie against pages which may not be touched: at their end, then at their beginning.
+ * What is only read lies in pages that may not be written. Each buffer in turn is exact, too short, too long, and NULL. */
+#define _DEFAULT_SOURCE
+#include <signal.h>
+#include <stdio.h>
+#include <stdlib.h>
+#include <string.h>
+#include <sys/mman.h>
+#include <unistd.h>
+
+#include "residues.h"
+
+#define SURPLUS 0xdeadbeefu
+#define BUFFERS 3
+
+/* The buffers of a case in their order, and their numbers in a reply. */
+enum { TABLE, COLUMN, RESULT };
+static const uint32_t number_of[BUFFERS] = {RESIDUES_TABLE, RESIDUES_COLUMN, RESIDUES_RESULT};
+
+/* Words between two pages that may not be touched. */
+typedef struct {
+    unsigned char *pages;
+    size_t bytes;
+    uint32_t *words;
+    size_t count;
+} lent;
+
+/* The numbers of a call. */
+typedef struct {
+    uint32_t p, n, r, s, i, j, c;
+} numbers;
+
+typedef uint64_t caller(const numbers *x, const lent *b);
+
+typedef struct {
+    const char *name;
+    caller *run;
+    int uses_column, uses_result;
+} call;
+
+static char doing[300];
+static unsigned long passed;
+
+/* ---- the calls ---- */
+
+static uint64_t run_entry(const numbers *x, const lent *b)
+{
+    return residues_entry(x->p, x->n, x->r, x->s, x->i, x->j, b[TABLE].words, b[TABLE].count);
+}
+
+static uint64_t run_matrix(const numbers *x, const lent *b)
+{
+    return residues_matrix(x->p, x->n, x->r, x->s, b[TABLE].words, b[TABLE].count, b[RESULT].words, b[RESULT].count);
+}
+
+static uint64_t run_apply(const numbers *x, const lent *b)
+{
+    return residues_apply(x->p, x->n, x->r, x->s, b[TABLE].words, b[TABLE].count, b[COLUMN].words, b[COLUMN].count,
+                          b[RESULT].words, b[RESULT].count);
+}
+
+static uint64_t run_apply_transpose(const numbers *x, const lent *b)
+{
+    return residues_apply_transpose(x->p, x->n, x->r, x->s, b[TABLE].words, b[TABLE].count, b[COLUMN].words, b[COLUMN].count,
+                                    b[RESULT].words, b[RESULT].count);
+}
+
+static uint64_t run_transpose(const numbers *x, const lent *b)
+{
+    return residues_transpose(x->p, x->n, x->r, x->s, b[TABLE].words, b[TABLE].count, b[RESULT].words, b[RESULT].count);
+}
+
+static uint64_t run_multiple(const numbers *x, const lent *b)
+{
+    return residues_multiple(x->p, x->n, x->r, x->s, x->c, b[TABLE].words, b[TABLE].count, b[RESULT].words, b[RESULT].count);
+}
+
+enum { ENTRY, MATRIX, APPLY, APPLY_TRANSPOSE, TRANSPOSE, MULTIPLE, CALLS };
+static const call calls[CALLS] = {
+    {"residues_entry", run_entry, 0, 0},
+    {"residues_matrix", run_matrix, 0, 1},
+    {"residues_apply", run_apply, 1, 1},
+    {"residues_apply_transpose", run_apply_transpose, 1, 1},
+    {"residues_transpose", run_transpose, 0, 1},
+    {"residues_multiple", run_multiple, 0, 1},
+};
+
+static int uses(const call *f, int buffer)
+{
+    return buffer == TABLE || (buffer == COLUMN && f->uses_column) || (buffer == RESULT && f->uses_result);
+}
+
+/* ---- failing ---- */
+
+static void fail(const char *what)
+{
+    printf("%s: %s\n", doing, what);
+    exit(1);
+}
+
+static void check(int holds, const char *what)
+{
+    if (!holds)
+        fail(what);
+}
+
+/* A touch of a page that may not be touched ends here. */
+static void touched(int signal_number)
+{
+    const char *what = signal_number == SIGABRT ? ": the library gave up\n" : ": a word was touched that may not be\n";
+    if (write(1, doing, strlen(doing)) < 0 || write(1, what, strlen(what)) < 0)
+        _exit(3);
+    _exit(2);
+}
+
+/* ---- lent memory ---- */
+
+static size_t page(void)
+{
+    return (size_t)sysconf(_SC_PAGESIZE);
+}
+
+/* A buffer of so many words, its end or its beginning at a page that may not be touched. */
+static lent lend(size_t count, int at_end)
+{
+    lent b;
+    size_t inside = (count * sizeof(uint32_t) + page() - 1) / page() * page();
+    b.bytes = inside + 2 * page();
+    b.pages = mmap(NULL, b.bytes, PROT_NONE, MAP_PRIVATE | MAP_ANONYMOUS, -1, 0);
+    check(b.pages != MAP_FAILED, "no memory");
+    check(inside == 0 || mprotect(b.pages + page(), inside, PROT_READ | PROT_WRITE) == 0, "no memory to write");
+    b.words = (uint32_t *)(void *)(b.pages + page() + (at_end ? inside - count * sizeof(uint32_t) : 0));
+    b.count = count;
+    return b;
+}
+
+static void only_read(const lent *b)
+{
+    size_t inside = b->bytes - 2 * page();
+    check(inside == 0 || mprotect(b->pages + page(), inside, PROT_READ) == 0, "no memory to read");
+}
+
+static void give_back(lent *b)
+{
+    check(munmap(b->pages, b->bytes) == 0, "memory not given back");
+}
+
+/* ---- one case ---- */
+
+/* What is handed in and owed: the words that are needed, and the words owed in the result where the call accepts. */
+typedef struct {
+    numbers x;
+    const uint32_t *words[BUFFERS];
+    size_t needed[BUFFERS];
+    uint32_t value;
+} problem;
+
+/* The words before the call: those of the problem, then surplus; a result is all surplus. */
+static uint32_t word_before(const problem *q, int buffer, size_t k)
+{
+    return buffer != RESULT && k < q->needed[buffer] ? q->words[buffer][k] : SURPLUS;
+}
+
+/* The words after an accepted call: the result holds what is owed. */
+static uint32_t word_after(const problem *q, int buffer, size_t k)
+{
+    return buffer == RESULT && k < q->needed[RESULT] ? q->words[RESULT][k] : word_before(q, buffer, k);
+}
+
+static void check_words(const problem *q, const lent *b, int buffer, int accepted)
+{
+    size_t k;
+    for (k = 0; k < b->count; k++) {
+        uint32_t owed = accepted ? word_after(q, buffer, k) : word_before(q, buffer, k);
+        if (b->words[k] != owed) {
+            printf("buffer %u word %lu: owed %u, came %u\n", number_of[buffer], (unsigned long)k, owed, b->words[k]);
+            fail("a wrong word");
+        }
+    }
+}
+
+/* Memory of so many words as they are before the call; what is only read may not be written. */
+static lent prepare(const problem *q, int buffer, size_t count, int at_end)
+{
+    lent b = lend(count, at_end);
+    size_t k;
+    for (k = 0; k < count; k++)
+        b.words[k] = word_before(q, buffer, k);
+    if (buffer != RESULT)
+        only_read(&b);
+    return b;
+}
+
+static void note(const call *f, const numbers *x, const lent *b, int at_end)
+{
+    snprintf(doing, sizeof doing, "%s, p %u n %u r %u s %u i %u j %u c %u, counts %lu %lu %lu, at the %s", f->name, x->p, x->n,
+             x->r, x->s, x->i, x->j, x->c, (unsigned long)b[TABLE].count, (unsigned long)b[COLUMN].count,
+             (unsigned long)b[RESULT].count, at_end ? "end" : "beginning");
+}
+
+static void check_reply(uint64_t reply, uint64_t owed)
+{
+    if (reply == owed)
+        return;
+    printf("owed %u %u %u %u, came %u %u %u %u\n", residues_number(owed), residues_buffer(owed), residues_row(owed),
+           residues_value(owed), residues_number(reply), residues_buffer(reply), residues_row(reply), residues_value(reply));
+    fail("a wrong reply");
+}
+
+/* Runs a call on counts of words; a count of 0 may be NULL. */
+static void try_counts(const call *f, const problem *q, const size_t *counts, int as_null, int at_end, uint64_t owed)
+{
+    lent b[BUFFERS], handed[BUFFERS];
+    int buffer;
+    for (buffer = 0; buffer < BUFFERS; buffer++) {
+        b[buffer] = prepare(q, buffer, uses(f, buffer) ? counts[buffer] : 0, at_end);
+        handed[buffer] = b[buffer];
+        if (as_null && b[buffer].count == 0)
+            handed[buffer].words = NULL;
+    }
+    note(f, &q->x, b, at_end);
+    check_reply(f->run(&q->x, handed), owed);
+    for (buffer = 0; buffer < BUFFERS; buffer++) {
+        check_words(q, &b[buffer], buffer, residues_number(owed) == RESIDUES_OK);
+        give_back(&b[buffer]);
+    }
+    passed++;
+}
+
+static uint64_t refusal(uint32_t number, uint32_t buffer, uint32_t row)
+{
+    return number + 256u * buffer + 65536u * row;
+}
+
+/* Too short where a count is below what is needed, the lowest buffer first; else accepted. */
+static uint64_t owed_for(const call *f, const problem *q, const size_t *counts)
+{
+    int buffer;
+    for (buffer = 0; buffer < BUFFERS; buffer++)
+        if (uses(f, buffer) && counts[buffer] < q->needed[buffer])
+            return refusal(RESIDUES_SHORT_BUFFER, number_of[buffer], 0);
+    return (uint64_t)q->value << 32;
+}
+
+/* Each buffer exact, one word short, empty and longer, in all combinations. */
+static void try_all_counts(const call *f, const problem *q)
+{
+    int choice, buffer, as_null, at_end;
+    for (choice = 0; choice < 4 * 4 * 4; choice++) {
+        size_t counts[BUFFERS];
+        int rest = choice, repeated = 0;
+        for (buffer = 0; buffer < BUFFERS; buffer++, rest /= 4) {
+            const size_t needed = q->needed[buffer];
+            const size_t choices[4] = {needed, needed - 1, 0, needed + 3};
+            counts[buffer] = uses(f, buffer) ? choices[rest % 4] : 0;
+            repeated |= !uses(f, buffer) && rest % 4 != 0;
+        }
+        for (as_null = 0; as_null < 2 && !repeated; as_null++)
+            for (at_end = 0; at_end < 2; at_end++)
+                try_counts(f, q, counts, as_null, at_end, owed_for(f, q, counts));
+    }
+}
+
+#define COUNT(list) (sizeof(list) / sizeof *(list))
+
+/* A number out of limits, in buffers of the right counts and in empty ones. */
+static void try_refused(const call *f, const problem *q, uint64_t owed)
+{
+    static const size_t empty[BUFFERS] = {0, 0, 0};
+    try_counts(f, q, q->needed, 1, 1, owed);
+    try_counts(f, q, empty, 1, 1, owed);
+}
+
+static void try_numbers(const call *f, const problem *q)
+{
+    static const uint32_t wrong_p[] = {0, 1, 4, 9, 2047, 2147483648u, 4294967295u};
+    static const uint32_t wrong_n[] = {0, 1025, 65536, 1073741824u, 4294967295u};
+    static const uint32_t wrong_order[] = {9, 65535, 65536, 2147483648u, 4294967295u};
+    problem wrong = *q;
+    size_t k;
+    for (k = 0; k < COUNT(wrong_p); k++, wrong = *q) {
+        wrong.x.p = wrong_p[k];
+        try_refused(f, &wrong, refusal(RESIDUES_BAD_PRIME, 0, 0));
+    }
+    for (k = 0; k < COUNT(wrong_n); k++, wrong = *q) {
+        wrong.x.n = wrong_n[k];
+        try_refused(f, &wrong, refusal(RESIDUES_BAD_SIZE, 0, 0));
+    }
+    for (k = 0; k < 2 * COUNT(wrong_order); k++, wrong = *q) {
+        *(k % 2 == 0 ? &wrong.x.r : &wrong.x.s) = wrong_order[k / 2];
+        try_refused(f, &wrong, refusal(RESIDUES_BAD_ORDER, RESIDUES_TABLE, 0));
+    }
+    for (k = 0; k < 4 && f == &calls[ENTRY]; k++, wrong = *q) {
+        *(k % 2 == 0 ? &wrong.x.i : &wrong.x.j) = k < 2 ? 0 : q->x.n + 1;
+        try_refused(f, &wrong, refusal(RESIDUES_BAD_PLACE, 0, 0));
+    }
+}
+
+/* A word that is not below the prime: the last d of the table, the last of the column, and c. */
+static void try_words(const call *f, const problem *q)
+{
+    problem wrong = *q;
+    uint32_t *words;
+    size_t last = (q->x.n - 1) * residues_row_words(q->x.r, q->x.s);
+    int buffer;
+    for (buffer = TABLE; buffer <= COLUMN; buffer++) {
+        if (!uses(f, buffer))
+            continue;
+        words = malloc(q->needed[buffer] * sizeof *words);
+        check(words != NULL, "no memory");
+        memcpy(words, q->words[buffer], q->needed[buffer] * sizeof *words);
+        words[buffer == TABLE ? last : q->needed[COLUMN] - 1] = q->x.p;
+        wrong.words[buffer] = words;
+        try_counts(f, &wrong, q->needed, 0, 1, refusal(RESIDUES_BAD_WORD, number_of[buffer], q->x.n));
+        wrong.words[buffer] = q->words[buffer];
+        free(words);
+    }
+    wrong.x.c = q->x.p;
+    if (f == &calls[MULTIPLE])
+        try_counts(f, &wrong, q->needed, 0, 1, refusal(RESIDUES_BAD_WORD, 0, 0));
+}
+
+static void try_problem(int which, numbers x, const uint32_t *table, const uint32_t *column, const uint32_t *result,
+                        uint32_t value)
+{
+    problem q;
+    q.x = x;
+    q.words[TABLE] = table;
+    q.words[COLUMN] = column;
+    q.words[RESULT] = result;
+    q.needed[TABLE] = residues_table_words(x.n, x.r, x.s);
+    q.needed[COLUMN] = x.n;
+    q.needed[RESULT] = which == MATRIX ? (size_t)x.n * x.n : which < TRANSPOSE ? x.n : q.needed[TABLE];
+    q.value = value;
+    try_all_counts(&calls[which], &q);
+    try_numbers(&calls[which], &q);
+    try_words(&calls[which], &q);
+}
+
+/* ---- file M's table ---- */
+
+static void file_m(void)
+{
+    static const uint32_t table[] = {1, 9, 9, 2, 1, 9, 9, 3, 1, 2, 1, 2, 3, 1, 5, 3, 9, 9, 9, 9, 4};
+    static const uint32_t column[] = {1, 2, 3};
+    static const uint32_t matrix[] = {1, 1, 5, 2, 3, 1, 5, 3, 5};
+    static const uint32_t applied[] = {4, 4, 5};
+    static const uint32_t applied_transpose[] = {6, 2, 1};
+    static const uint32_t transposed[] = {1, 0, 0, 1, 2, 0, 0, 3, 1, 3, 2, 1, 2, 1, 5, 4, 0, 0, 0, 0, 3};
+    static const uint32_t tripled[] = {3, 0, 0, 2, 3, 0, 0, 2, 3, 2, 1, 6, 3, 1, 1, 2, 0, 0, 0, 0, 4};
+    const numbers x = {7, 3, 1, 1, 3, 1, 3};
+    try_problem(ENTRY, x, table, column, NULL, 5);
+    try_problem(MATRIX, x, table, column, matrix, 0);
+    try_problem(APPLY, x, table, column, applied, 0);
+    try_problem(APPLY_TRANSPOSE, x, table, column, applied_transpose, 0);
+    try_problem(TRANSPOSE, x, table, column, transposed, 0);
+    try_problem(MULTIPLE, x, table, column, tripled, 0);
+}
+
+/* ---- tables of any size whose matrix is known ---- */
+
+#define P 2147483647u
+
+static uint32_t *room(size_t count)
+{
+    uint32_t *words = calloc(count, sizeof *words);
+    check(words != NULL, "no memory");
+    return words;
+}
+
+static uint32_t *put(uint32_t *w, size_t count, uint32_t word)
+{
+    while (count-- > 0)
+        *w++ = word;
+    return w;
+}
+
+static uint32_t *put_identity(uint32_t *w, uint32_t order, int used, uint32_t idle)
+{
+    uint32_t x, y;
+    for (x = 0; x < order; x++)
+        for (y = 0; y < order; y++)
+            *w++ = used ? x == y : idle;
+    return w;
+}
+
+/* Of an order, d on the diagonal, order * p below it and order * g above it: q and h are 1, a and b the identity. */
+static void fill(uint32_t *w, numbers x, uint32_t d, uint32_t p, uint32_t q, uint32_t g, uint32_t h, uint32_t idle)
+{
+    uint32_t k;
+    for (k = 1; k <= x.n; k++) {
+        const int first = k == 1, last = k == x.n;
+        w = put(w, 1, d);
+        w = put(w, x.r, first ? idle : p);
+        w = put_identity(w, x.r, !first && !last, idle);
+        w = put(w, x.r, last ? idle : q);
+        w = put(w, x.s, last ? idle : g);
+        w = put_identity(w, x.s, !first && !last, idle);
+        w = put(w, x.s, first ? idle : h);
+    }
+}
+
+static uint32_t entry_at(numbers x, uint32_t i, uint32_t j)
+{
+    return i == j ? 5 : i > j ? 2 * x.r : 3 * x.s;
+}
+
+/* d 5, p 2, g 3, applied to ones. */
+static void known(uint32_t n, uint32_t r, uint32_t s)
+{
+    const numbers x = {P, n, r, s, n, 1, P - 1};
+    const size_t words = residues_table_words(n, r, s);
+    uint32_t *table = room(words), *column = room(n), *square = room((size_t)n * n), *result = room(words);
+    uint32_t i, j;
+    fill(table, x, 5, 2, 1, 3, 1, 4294967295u);
+    put(column, n, 1);
+    try_problem(ENTRY, x, table, column, NULL, entry_at(x, n, 1));
+    for (i = 1; i <= n; i++)
+        for (j = 1; j <= n; j++)
+            square[(size_t)(i - 1) * n + j - 1] = entry_at(x, i, j);
+    try_problem(MATRIX, x, table, column, square, 0);
+    for (i = 1; i <= n; i++)
+        result[i - 1] = 5 + (i - 1) * 2 * r + (n - i) * 3 * s;
+    try_problem(APPLY, x, table, column, result, 0);
+    for (i = 1; i <= n; i++)
+        result[i - 1] = 5 + (i - 1) * 3 * s + (n - i) * 2 * r;
+    try_problem(APPLY_TRANSPOSE, x, table, column, result, 0);
+    {
+        const numbers turned = {P, n, s, r, 1, 1, 1};
+        fill(result, turned, 5, 1, 3, 1, 2, 0);
+        try_problem(TRANSPOSE, x, table, column, result, 0);
+    }
+    fill(result, x, P - 5, P - 2, 1, P - 3, 1, 0);
+    try_problem(MULTIPLE, x, table, column, result, 0);
+    free(table);
+    free(column);
+    free(square);
+    free(result);
+}
+
+int main(void)
+{
+    signal(SIGSEGV, touched);
+    signal(SIGBUS, touched);
+    signal(SIGABRT, touched);
+    file_m();
+    known(1, 0, 0);
+    known(1, 1, 2);
+    known(1, 8, 8);
+    known(2, 3, 1);
+    known(1024, 1, 1);
+    known(1024, 8, 8);
+    printf("boundary: %lu calls passed\n", passed);
+    return 0;
+}

@@ -1,0 +1,62 @@
+//! The calls, one module each: the buffers it is lent, its checks, the dense answer, and how it is reached.
+//! A further call is one more module and one more element of CALLS.
+
+use crate::case::{Case, Holds};
+use crate::lent::Lent;
+use crate::refusals::Check;
+
+pub mod apply;
+pub mod apply_transpose;
+pub mod entry;
+pub mod matrix;
+pub mod multiple;
+pub mod transpose;
+
+pub const CALLS: [&Call; 6] =
+    [&entry::CALL, &matrix::CALL, &apply::CALL, &apply_transpose::CALL, &transpose::CALL, &multiple::CALL];
+
+/// What a call takes beside P, N and the orders.
+#[derive(Clone, Copy, PartialEq)]
+pub enum Number {
+    None,
+    /// i and j
+    Place,
+    /// c
+    Factor,
+}
+
+/// A call of the library, and all that is owed about it.
+pub struct Call {
+    pub name: &'static str,
+    /// How many tables it is lent.
+    pub tables: usize,
+    pub number: Number,
+    /// The buffers by ascending number, and what each has room for.
+    pub buffers: &'static [(u32, Holds)],
+    /// The checks, in the order of the table of refusals.
+    pub checks: &'static [Check],
+    /// The numbers that must be reached, each with the buffer beside it.
+    pub outcomes: &'static [(u32, u32)],
+    /// What is owed where every check passes.
+    pub answer: fn(&Case) -> Answer,
+    /// Calls the library.
+    pub run: fn(&Case, &mut Lent) -> u64,
+}
+
+/// The value of an accepted call, and the words it leaves at the beginning of the buffers it writes.
+#[derive(Debug)]
+pub struct Answer {
+    pub value: u32,
+    pub written: Vec<(u32, Vec<u32>)>,
+}
+
+impl Answer {
+    pub fn value(value: u32) -> Answer {
+        Answer { value, written: vec![] }
+    }
+
+    /// The result, buffer 5.
+    pub fn result(words: Vec<u32>) -> Answer {
+        Answer { value: 0, written: vec![(5, words)] }
+    }
+}

@@ -1,0 +1,195 @@
+//! Random cases: each begins sound and exact, is varied, and then faults may be planted.
+
+use crate::calls::{Call, Number};
+use crate::case::{Buffer, Case, Fault, Holds};
+use crate::faults;
+use crate::layout::Shape;
+use crate::random::Random;
+use crate::refusals::{is_prime, LARGEST_PRIME};
+
+const PRIMES: [u32; 7] = [2, 3, 5, 7, 101, 2_147_483_629, LARGEST_PRIME];
+
+/// A case for a call: sound for half of the seeds, else with one to three faults.
+pub fn draw(call: &Call, random: &mut Random) -> Case {
+    let mut case = sound(call, random);
+    add_surplus(&mut case, random);
+    for fault in faults::draw(call, random) {
+        faults::plant(&mut case, fault, random);
+        case.faults.push(fault);
+    }
+    share(&mut case, random);
+    for buffer in &mut case.buffers {
+        buffer.null = buffer.words.is_empty() && random.once_in(2);
+    }
+    case
+}
+
+/// All numbers within limits, all buffers exact.
+pub fn sound(call: &Call, random: &mut Random) -> Case {
+    let (p, n) = (draw_prime(random), draw_size(random));
+    let orders = (0..call.tables).map(|_| (draw_order(n, random), draw_order(n, random))).collect();
+    let mut case = Case { p, n, orders, place: (1, 1), c: 1, buffers: vec![], faults: vec![] };
+    match call.number {
+        Number::None => {}
+        Number::Place => case.place = draw_place(n, random),
+        Number::Factor => case.c = draw_residue(p, random),
+    }
+    for &(number, holds) in call.buffers {
+        let mut buffer = Buffer::new(number, holds, vec![]);
+        buffer.words = draw_words(&case, &buffer, random);
+        case.buffers.push(buffer);
+    }
+    case
+}
+
+/// Mostly of the list, else a prime of any length.
+fn draw_prime(random: &mut Random) -> u32 {
+    if !random.once_in(4) {
+        return random.one_of(&PRIMES);
+    }
+    let most = LARGEST_PRIME >> random.below(30);
+    std::iter::repeat_with(|| random.between(2, most)).find(|&p| is_prime(p)).expect("there is a prime")
+}
+
+/// Mostly small, at times up to 1,024.
+fn draw_size(random: &mut Random) -> u32 {
+    match random.below(600) {
+        0..=199 => random.between(1, 3),
+        200..=499 => random.between(4, 12),
+        500..=594 => random.between(13, 40),
+        595..=597 => random.between(41, 100),
+        598 => random.between(64, 1023),
+        _ => 1024,
+    }
+}
+
+/// 0 to 8, mostly small, and smaller still for large sizes, where the dense program is slow.
+fn draw_order(n: u32, random: &mut Random) -> u32 {
+    match random.below(16) {
+        0..=2 => 0,
+        3..=6 => 1,
+        7..=9 => 2,
+        _ if n > 100 && !random.once_in(8) => random.between(0, 3),
+        10..=11 => 3,
+        12..=13 => random.between(4, 8),
+        _ => 8,
+    }
+}
+
+/// Corners, the diagonal, its neighbours, and anywhere.
+fn draw_place(n: u32, random: &mut Random) -> (u32, u32) {
+    let (i, j) = (random.between(1, n), random.between(1, n));
+    match random.below(8) {
+        0 => (n, 1),
+        1 => (1, n),
+        2 => (i, i),
+        3 => (i, (i + 1).min(n)),
+        4 => ((j + 1).min(n), j),
+        _ => (i, j),
+    }
+}
+
+/// How the residues of a buffer are chosen.
+#[derive(Clone, Copy)]
+enum Style {
+    Any,
+    Extreme,
+    Same(u32),
+    Runs,
+    Sparse,
+}
+
+fn draw_style(p: u32, random: &mut Random) -> Style {
+    match random.below(8) {
+        0..=2 => Style::Any,
+        3 => Style::Extreme,
+        4 => Style::Same(random.one_of(&[1, p - 1, p - 1])),
+        5 | 6 => Style::Runs,
+        _ => Style::Sparse,
+    }
+}
+
+fn draw_residue(p: u32, random: &mut Random) -> u32 {
+    if random.once_in(2) {
+        extreme(p, random)
+    } else {
+        random.between(0, p - 1)
+    }
+}
+
+/// The least and the largest residues, whose products are the largest and the least.
+fn extreme(p: u32, random: &mut Random) -> u32 {
+    random.one_of(&[0, 1, p - 2, p - 1])
+}
+
+fn draw_residues(p: u32, count: usize, random: &mut Random) -> Vec<u32> {
+    let style = draw_style(p, random);
+    let (mut run, mut left) = (0, 0);
+    let mut next = || match style {
+        Style::Any => random.between(0, p - 1),
+        Style::Extreme => extreme(p, random),
+        Style::Same(residue) => residue,
+        Style::Sparse => {
+            if random.once_in(4) {
+                random.between(0, p - 1)
+            } else {
+                0
+            }
+        }
+        Style::Runs => {
+            if left == 0 {
+                (run, left) = (extreme(p, random), random.between(1, 20));
+            }
+            left -= 1;
+            run
+        }
+    };
+    (0..count).map(|_| next()).collect()
+}
+
+fn draw_words(case: &Case, buffer: &Buffer, random: &mut Random) -> Vec<u32> {
+    let needed = case.needed(buffer.holds);
+    if !buffer.is_read() {
+        return (0..needed).map(|_| random.word()).collect();
+    }
+    let mut words = draw_residues(case.p, needed, random);
+    if let Holds::Table(which) = buffer.holds {
+        fill_idle(&mut words, case.p, case.shape(which), random);
+    }
+    words
+}
+
+/// Idle words: residues, zeros, the prime itself, or any words.
+fn fill_idle(words: &mut [u32], p: u32, shape: Shape, random: &mut Random) {
+    let style = random.below(5);
+    for place in [1, shape.n].into_iter().flat_map(|k| shape.idle_places(k)) {
+        match style {
+            0 => {}
+            1 => words[place] = 0,
+            2 => words[place] = random.one_of(&[p, p + 1, u32::MAX]),
+            _ => words[place] = random.word(),
+        }
+    }
+}
+
+/// Words behind what is needed: none, a few, or a row's.
+fn add_surplus(case: &mut Case, random: &mut Random) {
+    let row = case.shape(0).row_words();
+    for buffer in &mut case.buffers {
+        let count = random.one_of(&[0, 0, 0, 1, 2, 9, row, row + 1]);
+        buffer.words.extend((0..count).map(|_| random.word()));
+    }
+}
+
+/// At times the column is the first table's own memory: two buffers that are only read may be the same.
+fn share(case: &mut Case, random: &mut Random) {
+    let own = |fault: &Fault| matches!(fault, Fault::Short(3) | Fault::Word(3));
+    if case.faults.iter().any(own) || !random.once_in(12) {
+        return;
+    }
+    let words = case.buffer(1).words.clone();
+    if let Some(column) = case.buffers.iter_mut().find(|buffer| buffer.number == 3) {
+        column.words = words;
+        column.shared = true;
+    }
+}

@@ -1,0 +1,114 @@
+//! The faults that can be planted in a sound case.
+
+use crate::calls::{Call, Number};
+use crate::case::{Case, Fault, Holds};
+use crate::random::Random;
+use crate::refusals::LARGEST_PRIME;
+
+/// Units, squares, products of two primes, pseudoprimes, and primes above the limit.
+#[rustfmt::skip]
+const NO_PRIMES: [u32; 26] = [
+    0, 1, 4, 6, 9, 25, 49, 121, 341, 561, 1_105, 2_047, 65_535, 65_536, 1_373_653, 25_326_001,
+    46_337 * 46_337, 46_327 * 46_337, 2_147_483_641, 2_147_483_646, 2_147_483_648, 2_147_483_649, 2_147_483_659,
+    3_215_031_751, 4_294_967_291, 4_294_967_295,
+];
+
+/// Every fault that a call can meet.
+pub fn all(call: &Call) -> Vec<Fault> {
+    let mut faults = vec![Fault::Prime, Fault::Size];
+    faults.extend((0..call.tables).map(Fault::Orders));
+    match call.number {
+        Number::None => {}
+        Number::Place => faults.push(Fault::Place),
+        Number::Factor => faults.push(Fault::Factor),
+    }
+    let numbers = || call.buffers.iter().map(|&(number, _)| number);
+    faults.extend(numbers().map(Fault::Short));
+    faults.extend(numbers().filter(|&number| number <= 3).map(Fault::Word));
+    faults
+}
+
+/// No fault for half of the seeds, else one to three different ones.
+pub fn draw(call: &Call, random: &mut Random) -> Vec<Fault> {
+    let mut left = all(call);
+    let count = random.one_of(&[0, 0, 0, 0, 1, 1, 2, 3]);
+    let mut faults: Vec<Fault> = (0..count).map(|_| left.swap_remove(random.below(left.len()))).collect();
+    faults.sort();
+    faults
+}
+
+pub fn plant(case: &mut Case, fault: Fault, random: &mut Random) {
+    match fault {
+        Fault::Prime => case.p = draw_no_prime(random),
+        Fault::Size => case.n = random.one_of(&[0, 0, 1_025, 1_025, 1_026, 2_048, 65_536, 65_537, 0x8000_0000, u32::MAX]),
+        Fault::Orders(which) => plant_order(&mut case.orders[which], random),
+        Fault::Place => plant_place(case, random),
+        Fault::Factor => case.c = not_below(case.p, random),
+        Fault::Short(number) => cut(case, number, random),
+        Fault::Word(number) => plant_words(case, number, random),
+    }
+}
+
+fn plant_order(orders: &mut (u32, u32), random: &mut Random) {
+    let above = random.one_of(&[9, 9, 9, 10, 255, 256, 65_535, 65_536, 0x8000_0000, u32::MAX]);
+    match random.below(3) {
+        0 => orders.0 = above,
+        1 => orders.1 = above,
+        _ => *orders = (above, above),
+    }
+}
+
+fn plant_place(case: &mut Case, random: &mut Random) {
+    let outside = random.one_of(&[0, 0, case.n + 1, case.n + 1, 1_025, 65_537, 0x8000_0000, u32::MAX]);
+    match random.below(3) {
+        0 => case.place.0 = outside,
+        1 => case.place.1 = outside,
+        _ => case.place = (outside, outside),
+    }
+}
+
+/// A word that is no residue.
+fn not_below(p: u32, random: &mut Random) -> u32 {
+    let any = random.between(p, u32::MAX);
+    random.one_of(&[p, p, p.saturating_add(1), u32::MAX, any])
+}
+
+/// Makes a buffer too short: by one word, empty, or anyhow.
+fn cut(case: &mut Case, number: u32, random: &mut Random) {
+    let needed = case.needed(case.buffer(number).holds);
+    let count = match random.below(4) {
+        0 | 1 => needed - 1,
+        2 => 0,
+        _ => random.below(needed),
+    };
+    case.buffer_mut(number).words.truncate(count);
+}
+
+/// Plants one to three words that are no residues in used places: of the first row, the last, or any.
+fn plant_words(case: &mut Case, number: u32, random: &mut Random) {
+    for _ in 0..random.one_of(&[1, 1, 2, 3]) {
+        let row = match random.below(3) {
+            0 => 1,
+            1 => case.n,
+            _ => random.between(1, case.n),
+        };
+        let place = used_place(case, number, row as usize, random);
+        case.buffer_mut(number).words[place] = not_below(case.p, random);
+    }
+}
+
+fn used_place(case: &Case, number: u32, row: usize, random: &mut Random) -> usize {
+    match case.buffer(number).holds {
+        Holds::Table(which) => random.one_of(&case.shape(which).used_places(row).collect::<Vec<_>>()),
+        _ => row - 1,
+    }
+}
+
+/// Mostly of the list, else a product of two factors, or a number above the limit.
+fn draw_no_prime(random: &mut Random) -> u32 {
+    match random.below(4) {
+        0 => random.between(2, 46_340) * random.between(2, 46_340),
+        1 => random.between(LARGEST_PRIME + 1, u32::MAX),
+        _ => random.one_of(&NO_PRIMES),
+    }
+}

@@ -1,0 +1,113 @@
+//! Compares every call of the library, accepted and refused, with a dense program.
+//! `residues_tests` runs everything; `residues_tests CALL NUMBER` runs one random case again.
+
+mod calls;
+mod case;
+mod cases;
+mod crash;
+mod dense;
+mod examples;
+mod faults;
+mod layout;
+mod lent;
+mod limits;
+mod random;
+mod refusals;
+mod tally;
+mod together;
+mod trial;
+
+use calls::{Call, CALLS};
+use random::Random;
+use std::process::ExitCode;
+use std::sync::atomic::{AtomicBool, Ordering};
+use tally::Tally;
+
+const CASES_A_CALL: u64 = 6_000;
+const THREADS: usize = 4;
+
+/// Set at the first mismatch, where all threads end.
+static FAILED: AtomicBool = AtomicBool::new(false);
+
+fn main() -> ExitCode {
+    let arguments: Vec<String> = std::env::args().skip(1).collect();
+    let mut tally = Tally::default();
+    crash::watch();
+    let ended = match &arguments[..] {
+        [name, number] => again(name, number, &mut tally),
+        _ => everything(&mut tally),
+    };
+    match ended {
+        Ok(()) => {
+            println!("{} passed, 0 failed", tally.passed);
+            ExitCode::SUCCESS
+        }
+        Err(account) => {
+            println!("{account}");
+            println!("{} passed, 1 failed", tally.passed);
+            ExitCode::FAILURE
+        }
+    }
+}
+
+fn everything(tally: &mut Tally) -> Result<(), String> {
+    check_dense_program();
+    examples::run(tally)?;
+    limits::run(tally)?;
+    for (part, ended) in side_by_side() {
+        tally.add(part);
+        ended?;
+    }
+    together::run(tally)?;
+    tally.print();
+    let missing = tally.missing();
+    if missing.is_empty() {
+        Ok(())
+    } else {
+        Err(format!("never reached:\n  {}", missing.join("\n  ")))
+    }
+}
+
+/// The random cases of every call, dealt out to threads: calls share nothing, so they may run at the same time.
+fn side_by_side() -> [(Tally, Result<(), String>); THREADS] {
+    std::thread::scope(|scope| {
+        let threads: [_; THREADS] = std::array::from_fn(|first| scope.spawn(move || random_cases(first as u64)));
+        threads.map(|thread| thread.join().expect("the dense program agrees with itself"))
+    })
+}
+
+fn random_cases(first: u64) -> (Tally, Result<(), String>) {
+    let mut tally = Tally::default();
+    let numbers = || (first..CASES_A_CALL).step_by(THREADS);
+    let cases = CALLS.into_iter().flat_map(|call| numbers().map(move |number| (call, number)));
+    let mut going = cases.take_while(|_| !FAILED.load(Ordering::Relaxed));
+    let ended = going.try_for_each(|(call, number)| random_case(call, number, &mut tally));
+    FAILED.fetch_or(ended.is_err(), Ordering::Relaxed);
+    (tally, ended)
+}
+
+fn again(name: &str, number: &str, tally: &mut Tally) -> Result<(), String> {
+    let call = CALLS.into_iter().find(|call| call.name == name).ok_or("no such call")?;
+    random_case(call, number.parse().map_err(|_| "no such case")?, tally)
+}
+
+/// The case of a call that belongs to a number, always the same.
+fn random_case(call: &Call, number: u64, tally: &mut Tally) -> Result<(), String> {
+    let seed = call.name.bytes().fold(number, |seed, letter| seed.wrapping_mul(1_000_003).wrapping_add(letter as u64));
+    let case = cases::draw(call, &mut Random::seeded(seed));
+    crash::note(call.name, number);
+    let reply = trial::trial(call, &case).map_err(|account| format!("case {number} of {account}"))?;
+    tally.record(call, &case, reply);
+    Ok(())
+}
+
+/// The dense program must agree with itself before it judges.
+fn check_dense_program() {
+    let mut random = Random::seeded(1);
+    for _ in 0..200 {
+        let case = cases::sound(&calls::multiple::CALL, &mut random);
+        if case.n <= 30 {
+            dense::check_itself(case.table(), case.c);
+        }
+    }
+}

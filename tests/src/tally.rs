@@ -1,0 +1,139 @@
+//! What was reached: outcomes, traits of cases, and pairs of faults. A class that was never reached is a failure.
+
+use crate::calls::{Call, CALLS};
+use crate::case::{Case, Fault};
+use crate::faults;
+use crate::refusals::{Reply, LARGEST_PRIME};
+use std::collections::{BTreeMap, BTreeSet};
+
+#[derive(Default)]
+pub struct Tally {
+    pub passed: usize,
+    outcomes: BTreeMap<(&'static str, u32, u32), usize>,
+    traits: BTreeMap<(&'static str, &'static str), usize>,
+    pairs: BTreeSet<(&'static str, Fault, Fault)>,
+}
+
+/// A trait of a case that must occur with every call, and whether this case has it.
+type Trait = (&'static str, fn(&Case) -> bool);
+
+/// Traits of accepted cases.
+const ACCEPTED: [Trait; 15] = [
+    ("N is 1", |case| case.n == 1),
+    ("N is 2", |case| case.n == 2),
+    ("N is 1,024", |case| case.n == 1024),
+    ("P is 2", |case| case.p == 2),
+    ("P is 2,147,483,647", |case| case.p == LARGEST_PRIME),
+    ("r is 0, s is not", |case| case.orders[0].0 == 0 && case.orders[0].1 > 0),
+    ("s is 0, r is not", |case| case.orders[0].1 == 0 && case.orders[0].0 > 0),
+    ("r and s are 0", |case| case.orders[0] == (0, 0)),
+    ("r is 8", |case| case.orders[0].0 == 8),
+    ("s is 8", |case| case.orders[0].1 == 8),
+    ("idle word not below P in row 1", |case| has_high_idle(case, 1)),
+    ("idle word not below P in row N", |case| has_high_idle(case, case.n)),
+    ("no surplus", |case| case.buffers.iter().all(|buffer| buffer.words.len() == case.needed(buffer.holds))),
+    ("surplus in every buffer", |case| case.buffers.iter().all(|buffer| buffer.words.len() > case.needed(buffer.holds))),
+    ("surplus not below P", |case| case.buffer(1).words[case.needed(case.buffer(1).holds)..].iter().any(|&word| word >= case.p)),
+];
+
+/// Traits of refused cases.
+const REFUSED: [Trait; 3] = [
+    ("several faults", |case| case.faults.len() > 1),
+    ("an empty buffer", |case| case.buffers.iter().any(|buffer| buffer.words.is_empty() && !buffer.null)),
+    ("an empty buffer as NULL", |case| case.buffers.iter().any(|buffer| buffer.null)),
+];
+
+const BAD_FIRST: &str = "bad word first in row 1";
+const BAD_LAST: &str = "bad word first in row N";
+const SHARED: &str = "the column is the table's memory";
+
+fn has_high_idle(case: &Case, k: u32) -> bool {
+    case.shape(0).idle_places(k as usize).any(|place| case.buffer(1).words[place] >= case.p)
+}
+
+impl Tally {
+    /// Counts a case that passed.
+    pub fn record(&mut self, call: &Call, case: &Case, reply: Reply) {
+        self.passed += 1;
+        *self.outcomes.entry((call.name, reply.number, reply.buffer)).or_default() += 1;
+        let list = if reply.number == 0 { &ACCEPTED[..] } else { &REFUSED[..] };
+        list.iter().filter(|(_, holds)| holds(case)).for_each(|&(name, _)| self.count(call, name));
+        if reply.number == 5 && reply.row == 1 {
+            self.count(call, BAD_FIRST);
+        }
+        if reply.number == 5 && reply.row == case.n && case.n > 1 {
+            self.count(call, BAD_LAST);
+        }
+        if reply.number == 0 && case.buffers.iter().any(|buffer| buffer.shared) {
+            self.count(call, SHARED);
+        }
+        for &one in &case.faults {
+            self.pairs.extend(case.faults.iter().map(|&other| (call.name, one, other)));
+        }
+    }
+
+    /// Adds what another tally counted.
+    pub fn add(&mut self, other: Tally) {
+        self.passed += other.passed;
+        other.outcomes.into_iter().for_each(|(key, count)| *self.outcomes.entry(key).or_default() += count);
+        other.traits.into_iter().for_each(|(key, count)| *self.traits.entry(key).or_default() += count);
+        self.pairs.extend(other.pairs);
+    }
+
+    fn count(&mut self, call: &Call, name: &'static str) {
+        *self.traits.entry((call.name, name)).or_default() += 1;
+    }
+
+    /// Cases by call and outcome.
+    pub fn print(&self) {
+        for call in CALLS {
+            let counts = self.outcomes.iter().filter(|((name, ..), _)| *name == call.name);
+            let text: Vec<String> =
+                counts.map(|((_, number, buffer), count)| format!("{}: {count}", outcome(*number, *buffer))).collect();
+            println!("{:25} {}", call.name, text.join(", "));
+        }
+        let mut rare: Vec<_> = self.traits.iter().map(|((call, name), count)| (count, call, name)).collect();
+        rare.sort();
+        let text: Vec<String> = rare.iter().take(4).map(|(count, call, name)| format!("{call}, {name}: {count}")).collect();
+        println!("rarest traits: {}", text.join("; "));
+    }
+
+    /// What should have been reached and was not.
+    pub fn missing(&self) -> Vec<String> {
+        CALLS.iter().flat_map(|call| self.missing_of(call)).collect()
+    }
+
+    fn missing_of(&self, call: &Call) -> Vec<String> {
+        let outcomes =
+            call.outcomes.iter().filter(|&&(number, buffer)| !self.outcomes.contains_key(&(call.name, number, buffer)));
+        let traits = traits_of(call).into_iter().filter(|&name| !self.traits.contains_key(&(call.name, name)));
+        let pairs = all_pairs(call).into_iter().filter(|&(one, other)| !self.pairs.contains(&(call.name, one, other)));
+        outcomes
+            .map(|&(number, buffer)| format!("{}: {}", call.name, outcome(number, buffer)))
+            .chain(traits.map(|name| format!("{}: {name}", call.name)))
+            .chain(pairs.map(|(one, other)| format!("{}: {one:?} with {other:?}", call.name)))
+            .collect()
+    }
+}
+
+fn traits_of(call: &Call) -> Vec<&'static str> {
+    let mut names: Vec<&str> = ACCEPTED.iter().chain(&REFUSED).map(|&(name, _)| name).collect();
+    names.extend([BAD_FIRST, BAD_LAST]);
+    if call.buffers.iter().any(|&(number, _)| number == 3) {
+        names.push(SHARED);
+    }
+    names
+}
+
+fn all_pairs(call: &Call) -> Vec<(Fault, Fault)> {
+    let faults = faults::all(call);
+    faults.iter().flat_map(|&one| faults.iter().map(move |&other| (one, other))).collect()
+}
+
+fn outcome(number: u32, buffer: u32) -> String {
+    match (number, buffer) {
+        (0, _) => "accepted".into(),
+        (_, 0) => format!("refused {number}"),
+        _ => format!("refused {number} beside {buffer}"),
+    }
+}

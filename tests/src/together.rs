@@ -1,0 +1,30 @@
+//! Each call from several threads at the same time, on different cases, over and over: calls share nothing.
+
+use crate::calls::{Call, CALLS};
+use crate::case::Case;
+use crate::cases;
+use crate::random::Random;
+use crate::tally::Tally;
+use crate::trial::{compare, owed, Owed};
+
+const THREADS: usize = 4;
+const TIMES: usize = 500;
+
+pub fn run(tally: &mut Tally) -> Result<(), String> {
+    let mut random = Random::seeded(2);
+    for call in CALLS {
+        let drawn = std::iter::repeat_with(|| cases::sound(call, &mut random)).filter(|case| (20..=40).contains(&case.n));
+        let cases: Vec<_> = drawn.take(THREADS).map(|case| (owed(call, &case), case)).collect();
+        std::thread::scope(|scope| {
+            let threads: Vec<_> = cases.iter().map(|(owed, case)| scope.spawn(|| repeat(call, case, owed))).collect();
+            threads.into_iter().try_for_each(|thread| thread.join().expect("a thread ends"))
+        })?;
+        cases.iter().for_each(|(owed, case)| tally.record(call, case, owed.reply));
+    }
+    Ok(())
+}
+
+fn repeat(call: &Call, case: &Case, owed: &Owed) -> Result<(), String> {
+    let mut trials = (0..TIMES).map(|_| compare(call, case, owed));
+    trials.try_for_each(|ended| ended.map(|_| ())).map_err(|account| format!("beside other threads, {account}"))
+}
