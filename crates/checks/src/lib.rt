@@ -1,4 +1,4 @@
-// The checks on entry, in the order of the refusal table, which all calls share.
+// Replies, and the checks on entry that all calls share, in the order of the refusal table.
 ghost use mathlib.Core.Path.{_≡_};
 ghost use mathlib.Core.List.{List, []};
 ghost use Prim.Native.Nat.{ℕ, _+_, _*_, _<_, _≤_};
@@ -7,8 +7,9 @@ ghost use lib.ListN.{length, getD};
 ghost use Rattle.lists.specs.Lists.{some};
 ghost use Rattle.table.specs.Limits.{standard};
 ghost use Rattle.table.specs.Words.{table, gap, width, place, badRow, firstBad, firstBadPlace};
-ghost use Rattle.table.specs.Replies.{reply, accept, answer, badPrime, badSize, badOrder};
+ghost use Rattle.table.specs.Replies.{reply, packed, accept, answer, badPrime, badSize, badOrder};
 ghost use Rattle.table.specs.Calls.{sizeChecks};
+ghost use Rattle.table.specs.Undertakings.{Packed};
 
 // A call's answer: 0 accepted, or the refusal's number; the buffer and the row beside it; the value.
 pub struct Reply {
@@ -38,6 +39,17 @@ pub fn refuse(number: u32, buffer: u32, row: u32) -> Reply
         row,
         value: 0,
     }
+}
+
+// The reply in 64 bits: number + 256 * buffer + 65536 * row + 4294967296 * value
+pub fn pack(y: Reply) -> u64
+    requires { ⌜ Packed (reply (y .number) (y .buffer) (y .row) (y .value)) ⌝ }
+    ensures { λ v. ⌜ v ≡ packed (reply (y .number) (y .buffer) (y .row) (y .value)) ⌝ }
+{
+    y.number as u64
+        + 256 * (y.buffer as u64)
+        + 65536 * (y.row as u64)
+        + 4294967296 * (y.value as u64)
 }
 
 // ---- Numbers.

@@ -1,21 +1,8 @@
 // The C library: thin functions over the proved calls, with the reply packed into 64 bits. include/residues.h declares them.
-use checks::Reply;
 ghost use mathlib.Core.Path.{_≡_};
 ghost use Rattle.table.specs.Words.{table as tab};
-ghost use Rattle.table.specs.Replies.{reply, packed};
+ghost use Rattle.table.specs.Replies.{packed};
 ghost use Rattle.table.specs.Calls.{entryReply, matrixReply, matrixAfter, applyReply, applyAfter, applyTransposedAfter, transposeReply, transposeAfter, multipleReply, multipleAfter};
-ghost use Rattle.table.specs.Undertakings.{Packed};
-
-// number + 256 * buffer + 65536 * row + 4294967296 * value
-fn pack(y: Reply) -> u64
-    requires { ⌜ Packed (reply (y .number) (y .buffer) (y .row) (y .value)) ⌝ }
-    ensures { λ v. ⌜ v ≡ packed (reply (y .number) (y .buffer) (y .row) (y .value)) ⌝ }
-{
-    y.number as u64
-        + 256 * (y.buffer as u64)
-        + 65536 * (y.row as u64)
-        + 4294967296 * (y.value as u64)
-}
 
 #[no_mangle]
 pub extern "C" fn residues_entry(
@@ -29,7 +16,7 @@ pub extern "C" fn residues_entry(
 ) -> u64
     ensures { λ v. ⌜ v ≡ packed (entryReply p n (tab r s (now (table .entry))) i j) ⌝ }
 {
-    pack(calls::entry(p, n, r, s, i, j, table))
+    checks::pack(calls::entry(p, n, r, s, i, j, table))
 }
 
 #[no_mangle]
@@ -44,7 +31,7 @@ pub extern "C" fn residues_matrix(
     ensures { λ v. ⌜ v ≡ packed (matrixReply p n (tab r s (now (table .entry))) (now (result .entry))) ⌝ }
     ensures { λ v. ⌜ now (result .exit) ≡ matrixAfter p n (tab r s (now (table .entry))) (now (result .entry)) ⌝ }
 {
-    pack(calls::matrix(p, n, r, s, table, result))
+    checks::pack(calls::matrix(p, n, r, s, table, result))
 }
 
 #[no_mangle]
@@ -60,7 +47,7 @@ pub extern "C" fn residues_apply(
     ensures { λ v. ⌜ v ≡ packed (applyReply p n (tab r s (now (table .entry))) (now (column .entry)) (now (result .entry))) ⌝ }
     ensures { λ v. ⌜ now (result .exit) ≡ applyAfter p n (tab r s (now (table .entry))) (now (column .entry)) (now (result .entry)) ⌝ }
 {
-    pack(calls::apply(p, n, r, s, table, column, result))
+    checks::pack(calls::apply(p, n, r, s, table, column, result))
 }
 
 #[no_mangle]
@@ -76,7 +63,7 @@ pub extern "C" fn residues_apply_transpose(
     ensures { λ v. ⌜ v ≡ packed (applyReply p n (tab r s (now (table .entry))) (now (column .entry)) (now (result .entry))) ⌝ }
     ensures { λ v. ⌜ now (result .exit) ≡ applyTransposedAfter p n (tab r s (now (table .entry))) (now (column .entry)) (now (result .entry)) ⌝ }
 {
-    pack(calls::apply_transpose(p, n, r, s, table, column, result))
+    checks::pack(calls::apply_transpose(p, n, r, s, table, column, result))
 }
 
 #[no_mangle]
@@ -91,7 +78,7 @@ pub extern "C" fn residues_transpose(
     ensures { λ v. ⌜ v ≡ packed (transposeReply p n (tab r s (now (table .entry))) (now (result .entry))) ⌝ }
     ensures { λ v. ⌜ now (result .exit) ≡ transposeAfter p n (tab r s (now (table .entry))) (now (result .entry)) ⌝ }
 {
-    pack(calls::transpose(p, n, r, s, table, result))
+    checks::pack(calls::transpose(p, n, r, s, table, result))
 }
 
 #[no_mangle]
@@ -107,5 +94,5 @@ pub extern "C" fn residues_multiple(
     ensures { λ v. ⌜ v ≡ packed (multipleReply p n (tab r s (now (table .entry))) c (now (result .entry))) ⌝ }
     ensures { λ v. ⌜ now (result .exit) ≡ multipleAfter p n (tab r s (now (table .entry))) c (now (result .entry)) ⌝ }
 {
-    pack(calls::multiple(p, n, r, s, c, table, result))
+    checks::pack(calls::multiple(p, n, r, s, c, table, result))
 }
