@@ -27,7 +27,7 @@ join-left zero u v i h = absurd (omega arith)
 join-left (suc n) u v zero h = refl
 join-left (suc n) u v (suc i) h = join-left n (λ k. u (suc k)) v i (omega arith)
 
-join-right : {A : Type 0} (n : ℕ) (u v : ℕ → A) (i : ℕ) → join n u v (n + i) ≡ v i
+pub join-right : {A : Type 0} (n : ℕ) (u v : ℕ → A) (i : ℕ) → join n u v (n + i) ≡ v i
 unfolding join
 join-right zero u v i = let e : 0 + i ≡ i = omega arith in rw e refl
 join-right (suc n) u v i = let e : suc n + i ≡ suc (n + i) = omega arith in rw e (join-right n (λ k. u (suc k)) v i)

@@ -19,7 +19,7 @@ use Rattle.sweeps.specs.declared.Half.{Half}
 use Rattle.checks.specs.CheckLaws.{square-le}
 use Rattle.sweeps.specs.Half.{halfGens, HalfReads, downs, ups}
 use Rattle.sweeps.specs.Halves.{lowerHalf, upperHalf, transposedHalf}
-use Rattle.calls.specs.Passed.{Good}
+use Rattle.checks.specs.Passed.{Good}
 use Rattle.calls.specs.Finish.{two-sweeps, accepted-leaves}
 use Rattle.calls.specs.Link.{apply-is, apply-transposed-is}
 

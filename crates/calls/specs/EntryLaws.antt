@@ -16,8 +16,8 @@ use Rattle.table.specs.CallLaws.{passed, open-checks, refused-by, given}
 use Rattle.sweeps.specs.declared.Half.{Half}
 use Rattle.sweeps.specs.Half.{halfGens, HalfReads, entryBelow, entryAbove}
 use Rattle.sweeps.specs.Halves.{lowerHalf, upperHalf}
-use Rattle.calls.specs.Passed.{Good}
-use Rattle.calls.specs.Reads.{lower-down, upper-up}
+use Rattle.checks.specs.Passed.{Good}
+use Rattle.sweeps.specs.Reads.{lower-down, upper-up}
 use Rattle.calls.specs.Link.{entry-below-is, entry-above-is, entry-diagonal-is}
 use Rattle.calls.specs.ApplyLaws.{lower-sizes, upper-sizes}
 

@@ -18,8 +18,8 @@ use Rattle.sweeps.specs.declared.Half.{Half}
 use Rattle.sweeps.specs.Half.{halfGens, HalfReads, entryBelow, entryAbove}
 use Rattle.sweeps.specs.Halves.{lowerHalf, upperHalf, transposedHalf}
 use Rattle.rows.specs.PutLaws.{put-add}
-use Rattle.calls.specs.Passed.{Good}
-use Rattle.calls.specs.Reads.{lower-up, upper-down}
+use Rattle.checks.specs.Passed.{Good}
+use Rattle.sweeps.specs.Reads.{lower-up, upper-down}
 use Rattle.calls.specs.Link.{row-before-is, row-after-is}
 use Rattle.calls.specs.Finish.{accepted-leaves}
 use Rattle.calls.specs.ApplyLaws.{upper-sizes}

@@ -12,7 +12,7 @@ ghost use Rattle.table.specs.Words.{table as tab, matrixOf};
 ghost use Rattle.table.specs.Replies.{reply};
 ghost use Rattle.table.specs.Results.{entryW, matrixW};
 ghost use Rattle.table.specs.Calls.{entryReply, matrixReply, matrixAfter, applyReply, applyAfter, applyTransposedAfter, transposeReply, transposeAfter, multipleReply, multipleAfter};
-ghost use Rattle.calls.specs.Passed.{Good};
+ghost use Rattle.checks.specs.Passed.{Good};
 
 // ---- Entry and whole matrix.
 

@@ -1,22 +1,50 @@
 -- A call's checks, one after the other: what a reply is where one stops the call, and where all pass.
-use mathlib.Core.Bool.{true, false}
+use mathlib.Core.Bool.{Bool, true, false}
 use mathlib.Core.Logic.{_≢_}
 use mathlib.Core.Path.{_≡_, refl, sym, ap, _∙_}
-use mathlib.Core.List.{List, [], _++_}
-use Prim.Native.Nat.{ℕ, _*_, _<_, _≤_}
+use mathlib.Core.List.{List, [], _∷_, _++_}
+use Prim.Native.Nat.{ℕ, _+_, _*_, _<_, _≤_}
 use native.Mathlib.Omega.{arith}
 use lib.Dec.{ltb, leb}
 use lib.ListN.{length}
 use borrow.Author.Tests.{leb-true, lt-ltb, le-ltb}
+use Rattle.algebra.specs.Generators.{pick}
 use Rattle.table.specs.Limits.{standard}
-use Rattle.table.specs.Words.{Table}
-use Rattle.table.specs.Replies.{Reply, Check, accept, answer, Accepted, NoFault, badPrime, badSize, badOrder, short}
+use Rattle.table.specs.Words.{Table, table}
+use Rattle.table.specs.Replies.{Reply, Check, check, accept, answer, NoFault, badPrime, badSize, badOrder, short}
 use Rattle.table.specs.Calls.{sizeChecks}
-use Rattle.table.specs.CallLaws.{passed, open-checks, refused-by, given, answer-append, both-hold}
+use Rattle.table.specs.CallLaws.{refusing, passed, open-checks, refused-by, given, answer-append, both-hold}
+use Rattle.refusals.specs.Orders.{orderChecks}
 
--- the first checks refuse, whatever comes after them; or they pass, and the others decide
-pub first-refused : (cs ds : List Check) (v w : Reply) → Accepted v → answer cs v .number ≢ 0 → answer cs v ≡ answer (cs ++ ds) w
-first-refused cs ds v w ok n = let z = refused-by cs v ok n in given cs v (z .0) (z .1) ∙ sym (answer-append cs ds w ∙ given cs (answer ds w) (z .0) (z .1))
+-- A reply against a call's checks: one more holds and gives it, one more doesn't hold, none is left.
+pub here : {c : Bool} {y w : Reply} (cs : List Check) (v : Reply) → c ≡ true → w ≡ y → w ≡ answer (check c y ∷ cs) v
+unfolding answer
+here {y = y} cs v e q = q ∙ sym (ap (λ (c : Bool). pick c y (answer cs v)) e)
+
+pub next : {c : Bool} {w : Reply} (y : Reply) (cs : List Check) (v : Reply) → c ≡ false → w ≡ answer cs v → w ≡ answer (check c y ∷ cs) v
+unfolding answer
+next y cs v e q = q ∙ sym (ap (λ (c : Bool). pick c y (answer cs v)) e)
+
+pub last : {v w : Reply} → w ≡ v → w ≡ answer [] v
+unfolding answer
+last q = q
+
+-- y is the answer of a call's first checks: it refuses, whatever comes after them; or they pass, and the others decide
+module _ (cs : List Check) (y : Reply) (e : y ≡ answer cs (accept 0)) where
+  first-stop : y .number ≢ 0 → (ds : List Check) (v : Reply) → y ≡ answer (cs ++ ds) v
+  first-stop n ds v =
+      let z = refused-by cs (accept 0) refl (λ q. n (ap (λ (x : Reply). x .number) e ∙ q)) in
+      e ∙ given cs (accept 0) (z .0) (z .1) ∙ sym (answer-append cs ds v ∙ given cs (answer ds v) (z .0) (z .1))
+
+  module _ (r : refusing cs ≡ true) (ok : y .number ≡ 0) where
+    first-clear : NoFault cs
+    first-clear = passed cs (accept 0) r (ap (λ (x : Reply). x .number) (sym e) ∙ ok)
+
+    first-accept : y ≡ accept 0
+    first-accept = e ∙ open-checks cs (accept 0) first-clear
+
+    first-pass : (ds : List Check) (v : Reply) {w : Reply} → w ≡ answer ds v → w ≡ answer (cs ++ ds) v
+    first-pass ds v q = q ∙ sym (answer-append cs ds v ∙ open-checks cs (answer ds v) first-clear)
 
 -- y is the answer of the first three checks
 abbrev pub Numbers : (P N : ℕ) → Table → Reply → Type 0
@@ -30,23 +58,51 @@ pub record Clear (P N : ℕ) (A : Table) : Type 0 where
 
 module _ (P N : ℕ) (A : Table) (y : Reply) (e : Numbers P N A y) where
   pub numbers-stop : y .number ≢ 0 → (cs : List Check) (v : Reply) → y ≡ answer (sizeChecks P N standard A cs) v
-  numbers-stop n cs v = e ∙ first-refused (sizeChecks P N standard A []) cs (accept 0) v refl (λ z. n (ap (λ (x : Reply). x .number) e ∙ z))
+  numbers-stop = first-stop (sizeChecks P N standard A []) y e
 
   module _ (ok : y .number ≡ 0) where
-    clear : NoFault (sizeChecks P N standard A [])
-    clear = passed (sizeChecks P N standard A []) (accept 0) refl (ap (λ (x : Reply). x .number) (sym e) ∙ ok)
-
     pub numbers-clear : Clear P N A
-    numbers-clear = record { prime = clear 0; size = clear 1; orders = clear 2 }
+    numbers-clear = let z = first-clear (sizeChecks P N standard A []) y e refl ok in record { prime = z 0; size = z 1; orders = z 2 }
 
     pub numbers-accept : y ≡ accept 0
-    numbers-accept = e ∙ open-checks (sizeChecks P N standard A []) (accept 0) clear
+    numbers-accept = first-accept (sizeChecks P N standard A []) y e refl ok
 
--- the size and the orders are within the limits
+    pub numbers-pass : {w : Reply} (cs : List Check) (v : Reply) → w ≡ answer cs v → w ≡ answer (sizeChecks P N standard A cs) v
+    numbers-pass cs v = first-pass (sizeChecks P N standard A []) y e refl ok cs v
+
+-- The same of two tables: y is the answer of the first five checks; they pass, for each table and for the orders added.
+abbrev pub Orders : (P N : ℕ) (A B : Table) → Reply → Type 0
+Orders P N A B y = y ≡ answer (orderChecks P N A B []) (accept 0)
+
+pub record ClearPair (P N : ℕ) (A B : Table) : Type 0 where
+  pub first : Clear P N A
+  pub second : Clear P N B
+  pub added : Clear P N (table (A .lower + B .lower) (A .upper + B .upper) [])
+
+module _ (P N : ℕ) (A B : Table) (y : Reply) (e : Orders P N A B y) where
+  pub orders-stop : y .number ≢ 0 → (cs : List Check) (v : Reply) → y ≡ answer (orderChecks P N A B cs) v
+  orders-stop = first-stop (orderChecks P N A B []) y e
+
+  module _ (ok : y .number ≡ 0) where
+    pub orders-clear : ClearPair P N A B
+    orders-clear = let z = first-clear (orderChecks P N A B []) y e refl ok in record {
+      first = record { prime = z 0; size = z 1; orders = z 2 };
+      second = record { prime = z 0; size = z 1; orders = z 3 };
+      added = record { prime = z 0; size = z 1; orders = z 4 };
+    }
+
+    pub orders-accept : y ≡ accept 0
+    orders-accept = first-accept (orderChecks P N A B []) y e refl ok
+
+    pub orders-pass : {w : Reply} (cs : List Check) (v : Reply) → w ≡ answer cs v → w ≡ answer (orderChecks P N A B cs) v
+    orders-pass cs v = first-pass (orderChecks P N A B []) y e refl ok cs v
+
+-- orders, and the size with them, are within the limits
+pub order-within : (r s : ℕ) → badOrder (standard .order) r s ≡ false → (r ≤ 8) × (s ≤ 8)
+order-within r s e = let o = both-hold (leb r (standard .order)) (leb s (standard .order)) e in (leb-true r 8 (o .0), leb-true s 8 (o .1))
+
 pub within : (P N : ℕ) (A : Table) → Clear P N A → (N ≤ 1024) × (A .lower ≤ 8) × (A .upper ≤ 8)
-within P N A z =
-    let o = both-hold (leb (A .lower) (standard .order)) (leb (A .upper) (standard .order)) (z .orders) in
-    (leb-true N 1024 (both-hold (leb 1 N) (leb N (standard .size)) (z .size) .1), leb-true (A .lower) 8 (o .0), leb-true (A .upper) 8 (o .1))
+within P N A z = let o = order-within (A .lower) (A .upper) (z .orders) in (leb-true N 1024 (both-hold (leb 1 N) (leb N (standard .size)) (z .size) .1), o .0, o .1)
 
 -- The causes as code tests them: a table of n rows of w words, a buffer of given length, a search's row.
 pub table-short : (t : List ℕ) (n w W : ℕ) → w ≡ W → length t < n * w → short t (n * W) ≡ true

@@ -2,7 +2,7 @@
 ghost use mathlib.Core.Path.{_≡_};
 ghost use Rattle.table.specs.Words.{table as tab};
 ghost use Rattle.table.specs.Replies.{packed};
-ghost use Rattle.table.specs.Calls.{entryReply, matrixReply, matrixAfter, applyReply, applyAfter, applyTransposedAfter, transposeReply, transposeAfter, multipleReply, multipleAfter};
+ghost use Rattle.table.specs.Calls.{entryReply, matrixReply, matrixAfter, applyReply, applyAfter, applyTransposedAfter, transposeReply, transposeAfter, multipleReply, multipleAfter, sumReply, sumAfter, productReply, productAfter};
 
 #[no_mangle]
 pub extern "C" fn residues_entry(
@@ -95,4 +95,40 @@ pub extern "C" fn residues_multiple(
     ensures { λ v. ⌜ now (result .exit) ≡ multipleAfter p n (tab r s (now (table .entry))) c (now (result .entry)) ⌝ }
 {
     checks::pack(calls::multiple(p, n, r, s, c, table, result))
+}
+
+#[no_mangle]
+pub extern "C" fn residues_sum(
+    p: u32,
+    n: u32,
+    r1: u32,
+    s1: u32,
+    r2: u32,
+    s2: u32,
+    first: &[u32],
+    second: &[u32],
+    result: &mut [u32],
+) -> u64
+    ensures { λ v. ⌜ v ≡ packed (sumReply p n (tab r1 s1 (now (first .entry))) (tab r2 s2 (now (second .entry))) (now (result .entry))) ⌝ }
+    ensures { λ v. ⌜ now (result .exit) ≡ sumAfter p n (tab r1 s1 (now (first .entry))) (tab r2 s2 (now (second .entry))) (now (result .entry)) ⌝ }
+{
+    checks::pack(joins::sum(p, n, r1, s1, r2, s2, first, second, result))
+}
+
+#[no_mangle]
+pub extern "C" fn residues_product(
+    p: u32,
+    n: u32,
+    r1: u32,
+    s1: u32,
+    r2: u32,
+    s2: u32,
+    first: &[u32],
+    second: &[u32],
+    result: &mut [u32],
+) -> u64
+    ensures { λ v. ⌜ v ≡ packed (productReply p n (tab r1 s1 (now (first .entry))) (tab r2 s2 (now (second .entry))) (now (result .entry))) ⌝ }
+    ensures { λ v. ⌜ now (result .exit) ≡ productAfter p n (tab r1 s1 (now (first .entry))) (tab r2 s2 (now (second .entry))) (now (result .entry)) ⌝ }
+{
+    checks::pack(joins::product(p, n, r1, s1, r2, s2, first, second, result))
 }

@@ -12,8 +12,8 @@ use Rattle.table.specs.Results.{applyW}
 use Rattle.table.specs.Replies.{Reply, reply, Accepted}
 use Rattle.table.specs.Calls.{applyReply}
 use Rattle.sweeps.specs.Halves.{lowerHalf, upperHalf}
-use Rattle.calls.specs.Passed.{Good, apply-passed}
-use Rattle.calls.specs.Reads.{lower-down, upper-up}
+use Rattle.checks.specs.Passed.{Good, apply-passed}
+use Rattle.sweeps.specs.Reads.{lower-down, upper-up}
 use Rattle.calls.specs.Finish.{refused-leaves, swept-length, swept-reads}
 use Rattle.calls.specs.ApplyLaws.{downList, upList, applied, column-reads, lower-sizes, upper-sizes, down-asks, up-asks, down-leaves, up-leaves}
 use Rattle.calls.proofs.apply.Statement.{statement}

@@ -12,8 +12,8 @@ use Rattle.table.specs.Results.{applyTransposedW}
 use Rattle.table.specs.Replies.{Reply, reply, Accepted}
 use Rattle.table.specs.Calls.{applyReply}
 use Rattle.sweeps.specs.Halves.{lowerHalf, upperHalf, transposedHalf}
-use Rattle.calls.specs.Passed.{Good, apply-passed}
-use Rattle.calls.specs.Reads.{upper-down, lower-up}
+use Rattle.checks.specs.Passed.{Good, apply-passed}
+use Rattle.sweeps.specs.Reads.{upper-down, lower-up}
 use Rattle.calls.specs.Finish.{refused-leaves, swept-length, swept-reads}
 use Rattle.calls.specs.ApplyLaws.{downList, upList, applied-transposed, column-reads, lower-sizes, upper-sizes, down-asks, up-asks, down-leaves, up-leaves}
 use Rattle.calls.proofs.apply_transpose.Statement.{statement}

@@ -10,7 +10,7 @@ use Rattle.table.specs.Replies.{Reply, reply, accept}
 use Rattle.table.specs.Results.{entryW}
 use Rattle.table.specs.Calls.{entryReply}
 use Rattle.checks.specs.CheckLaws.{reply-is}
-use Rattle.calls.specs.Passed.{Good, entry-passed}
+use Rattle.checks.specs.Passed.{Good, entry-passed}
 use Rattle.calls.specs.EntryLaws.{entry-refused, entry-accepted}
 use Rattle.calls.proofs.entry.Statement.{statement}
 use Rattle.calls.proofs.entry.Tie as tie

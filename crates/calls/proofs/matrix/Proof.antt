@@ -11,7 +11,7 @@ use Rattle.table.specs.Words.{table}
 use Rattle.table.specs.Results.{matrixW}
 use Rattle.table.specs.Replies.{Reply, reply, Accepted}
 use Rattle.table.specs.Calls.{matrixReply}
-use Rattle.calls.specs.Passed.{Good, matrix-passed}
+use Rattle.checks.specs.Passed.{Good, matrix-passed}
 use Rattle.calls.specs.Finish.{refused-leaves}
 use Rattle.calls.specs.MatrixLaws.{matrix-leaves}
 use Rattle.calls.proofs.matrix.Statement.{statement}

@@ -12,7 +12,7 @@ use Rattle.table.specs.Words.{table, width, firstBad}
 use Rattle.table.specs.Results.{multipleW}
 use Rattle.table.specs.Replies.{Reply, reply, Accepted}
 use Rattle.table.specs.Calls.{multipleReply, tableLength}
-use Rattle.calls.specs.Passed.{Good, multiple-passed}
+use Rattle.checks.specs.Passed.{Good, multiple-passed}
 use Rattle.calls.specs.Finish.{refused-leaves, accepted-leaves, written-length, multiple-length}
 use Rattle.calls.proofs.multiple.Statement.{statement}
 use Rattle.calls.proofs.multiple.Tie as tie

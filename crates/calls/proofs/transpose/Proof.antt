@@ -10,7 +10,7 @@ use Rattle.table.specs.Words.{table}
 use Rattle.table.specs.Results.{transposeW}
 use Rattle.table.specs.Replies.{Reply, reply, Accepted}
 use Rattle.table.specs.Calls.{transposeReply, tableLength}
-use Rattle.calls.specs.Passed.{Good, transpose-passed}
+use Rattle.checks.specs.Passed.{Good, transpose-passed}
 use Rattle.calls.specs.Finish.{refused-leaves, accepted-leaves, written-length, transpose-length}
 use Rattle.calls.proofs.transpose.Statement.{statement}
 use Rattle.calls.proofs.transpose.Tie as tie

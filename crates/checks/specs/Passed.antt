@@ -2,7 +2,7 @@
 use mathlib.Core.Bool.{false}
 use mathlib.Core.Path.{_≡_, refl}
 use mathlib.Core.List.{List}
-use Prim.Native.Nat.{ℕ, _*_, _<_, _≤_}
+use Prim.Native.Nat.{ℕ, _+_, _*_, _<_, _≤_}
 use lib.Dec.{leb}
 use lib.ListN.{length}
 use borrow.Author.Tests.{leb-true, leb-false, ltb-false}
@@ -10,17 +10,16 @@ use Rattle.field.specs.Prime.{Prime}
 use Rattle.field.specs.PrimeTest.{isPrime}
 use Rattle.lists.specs.ListLaws.{or-false}
 use Rattle.table.specs.Limits.{standard}
-use Rattle.table.specs.Words.{Table, firstBad, firstBadPlace}
-use Rattle.table.specs.Replies.{Accepted, accept, badPrime, badSize, badOrder, badPlace}
+use Rattle.table.specs.Words.{Table, width, firstBad, firstBadPlace}
+use Rattle.table.specs.Replies.{Accepted, NoFault, accept, badPrime, badSize, badOrder, badPlace}
 use Rattle.table.specs.Results.{entryW}
-use Rattle.table.specs.Calls.{tableLength, entryChecks, entryReply, matrixChecks, matrixReply, applyChecks, applyReply, transposeChecks, transposeReply, multipleChecks, multipleReply}
+use Rattle.table.specs.Calls.{tableLength, entryChecks, entryReply, matrixChecks, matrixReply, applyChecks, applyReply, transposeChecks, transposeReply, multipleChecks, multipleReply, pairChecks, sumReply, productReply}
 use Rattle.table.specs.CallLaws.{passed, no-row, both-hold, good-prime}
 
 -- The prime, the size and the orders are within the limits, the table is long enough and no used word of it is P or more.
 pub record Good (P N : ℕ) (A : Table) : Type 0 where
   pub prime : Prime P
   pub limit : P ≤ 2147483647
-  pub some-row : 1 ≤ N
   pub most : N ≤ 1024
   pub lower : A .lower ≤ 8
   pub upper : A .upper ≤ 8
@@ -32,7 +31,6 @@ module _ (P N : ℕ) (A : Table) (c0 : badPrime (standard .prime) P ≡ false) (
   good = record {
     prime = good-prime (standard .prime) P c0;
     limit = leb-true P (standard .prime) (both-hold (isPrime P) (leb P (standard .prime)) c0 .1);
-    some-row = leb-true 1 N (both-hold (leb 1 N) (leb N (standard .size)) c1 .0);
     most = leb-true N (standard .size) (both-hold (leb 1 N) (leb N (standard .size)) c1 .1);
     lower = leb-true (A .lower) (standard .order) (both-hold (leb (A .lower) (standard .order)) (leb (A .upper) (standard .order)) c2 .0);
     upper = leb-true (A .upper) (standard .order) (both-hold (leb (A .lower) (standard .order)) (leb (A .upper) (standard .order)) c2 .1);
@@ -68,3 +66,31 @@ module _ (P N : ℕ) (A : Table) where
   unfolding multipleReply
   multiple-passed k d ok = let c = passed (multipleChecks P N A k d) (accept 0) refl ok in
       (good P N A (c 0) (c 1) (c 2) (ltb-false _ _ (c 3)) (no-row _ (c 6)), ltb-false _ _ (c 4), leb-false _ _ (c 5))
+
+-- two tables are good, their orders added are within the limits and the result has room
+pub record GoodPair (P N : ℕ) (A B : Table) (d : List ℕ) : Type 0 where
+  pub first : Good P N A
+  pub second : Good P N B
+  pub lower : A .lower + B .lower ≤ 8
+  pub upper : A .upper + B .upper ≤ 8
+  pub room : N * width (A .lower + B .lower) (A .upper + B .upper) ≤ length d
+
+module _ (P N : ℕ) (A B : Table) (d : List ℕ) where
+  pair-passed : NoFault (pairChecks P N A B d) → GoodPair P N A B d
+  pair-passed c =
+      let o = both-hold (leb (A .lower + B .lower) (standard .order)) (leb (A .upper + B .upper) (standard .order)) (c 4) in
+      record {
+        first = good P N A (c 0) (c 1) (c 2) (ltb-false _ _ (c 5)) (no-row _ (c 8));
+        second = good P N B (c 0) (c 1) (c 3) (ltb-false _ _ (c 6)) (no-row _ (c 9));
+        lower = leb-true (A .lower + B .lower) (standard .order) (o .0);
+        upper = leb-true (A .upper + B .upper) (standard .order) (o .1);
+        room = ltb-false _ _ (c 7);
+      }
+
+  pub sum-passed : Accepted (sumReply P N A B d) → GoodPair P N A B d
+  unfolding sumReply
+  sum-passed ok = pair-passed (passed (pairChecks P N A B d) (accept 0) refl ok)
+
+  pub product-passed : Accepted (productReply P N A B d) → GoodPair P N A B d
+  unfolding productReply
+  product-passed ok = pair-passed (passed (pairChecks P N A B d) (accept 0) refl ok)

@@ -1,0 +1,3 @@
+pub mod Cross
+pub mod CrossLaws
+pub mod HeldCross

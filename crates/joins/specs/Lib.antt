@@ -1,0 +1,2 @@
+pub mod PairCall
+pub mod PairCallLaws
