@@ -80,6 +80,18 @@ uint64_t residues_transpose(uint32_t p, uint32_t n, uint32_t r, uint32_t s,
 uint64_t residues_multiple(uint32_t p, uint32_t n, uint32_t r, uint32_t s, uint32_t c,
                            const uint32_t *table, size_t table_len, uint32_t *result, size_t result_len);
 
+/* The table of the sum of two matrices, of orders r1 + r2 and s1 + s2, to the result. Reads both tables, which may be the same
+ * buffer. Refuses 1, 2, 3, 6, 4, 5. */
+uint64_t residues_sum(uint32_t p, uint32_t n, uint32_t r1, uint32_t s1, uint32_t r2, uint32_t s2,
+                      const uint32_t *first, size_t first_len, const uint32_t *second, size_t second_len,
+                      uint32_t *result, size_t result_len);
+
+/* The table of the first matrix times the second, of orders r1 + r2 and s1 + s2, to the result. Reads both tables, which may be
+ * the same buffer. Refuses 1, 2, 3, 6, 4, 5. */
+uint64_t residues_product(uint32_t p, uint32_t n, uint32_t r1, uint32_t s1, uint32_t r2, uint32_t s2,
+                          const uint32_t *first, size_t first_len, const uint32_t *second, size_t second_len,
+                          uint32_t *result, size_t result_len);
+
 #ifdef __cplusplus
 }
 #endif

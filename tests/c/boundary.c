@@ -11,11 +11,11 @@
 #include "residues.h"
 
 #define SURPLUS 0xdeadbeefu
-#define BUFFERS 3
+#define BUFFERS 4
 
 /* The buffers of a case in their order, and their numbers in a reply. */
-enum { TABLE, COLUMN, RESULT };
-static const uint32_t number_of[BUFFERS] = {RESIDUES_TABLE, RESIDUES_COLUMN, RESIDUES_RESULT};
+enum { TABLE, SECOND, COLUMN, RESULT };
+static const uint32_t number_of[BUFFERS] = {RESIDUES_TABLE, RESIDUES_SECOND_TABLE, RESIDUES_COLUMN, RESIDUES_RESULT};
 
 /* Words between two pages that may not be touched. */
 typedef struct {
@@ -25,9 +25,9 @@ typedef struct {
     size_t count;
 } lent;
 
-/* The numbers of a call. */
+/* The numbers of a call; r2 and s2 are the second table's orders. */
 typedef struct {
-    uint32_t p, n, r, s, i, j, c;
+    uint32_t p, n, r, s, i, j, c, r2, s2;
 } numbers;
 
 typedef uint64_t caller(const numbers *x, const lent *b);
@@ -35,7 +35,7 @@ typedef uint64_t caller(const numbers *x, const lent *b);
 typedef struct {
     const char *name;
     caller *run;
-    int uses_column, uses_result;
+    int uses_second, uses_column, uses_result;
 } call;
 
 static char doing[300];
@@ -75,19 +75,34 @@ static uint64_t run_multiple(const numbers *x, const lent *b)
     return residues_multiple(x->p, x->n, x->r, x->s, x->c, b[TABLE].words, b[TABLE].count, b[RESULT].words, b[RESULT].count);
 }
 
-enum { ENTRY, MATRIX, APPLY, APPLY_TRANSPOSE, TRANSPOSE, MULTIPLE, CALLS };
+static uint64_t run_sum(const numbers *x, const lent *b)
+{
+    return residues_sum(x->p, x->n, x->r, x->s, x->r2, x->s2, b[TABLE].words, b[TABLE].count, b[SECOND].words, b[SECOND].count,
+                        b[RESULT].words, b[RESULT].count);
+}
+
+static uint64_t run_product(const numbers *x, const lent *b)
+{
+    return residues_product(x->p, x->n, x->r, x->s, x->r2, x->s2, b[TABLE].words, b[TABLE].count, b[SECOND].words,
+                            b[SECOND].count, b[RESULT].words, b[RESULT].count);
+}
+
+enum { ENTRY, MATRIX, APPLY, APPLY_TRANSPOSE, TRANSPOSE, MULTIPLE, SUM, PRODUCT, CALLS };
 static const call calls[CALLS] = {
-    {"residues_entry", run_entry, 0, 0},
-    {"residues_matrix", run_matrix, 0, 1},
-    {"residues_apply", run_apply, 1, 1},
-    {"residues_apply_transpose", run_apply_transpose, 1, 1},
-    {"residues_transpose", run_transpose, 0, 1},
-    {"residues_multiple", run_multiple, 0, 1},
+    {"residues_entry", run_entry, 0, 0, 0},
+    {"residues_matrix", run_matrix, 0, 0, 1},
+    {"residues_apply", run_apply, 0, 1, 1},
+    {"residues_apply_transpose", run_apply_transpose, 0, 1, 1},
+    {"residues_transpose", run_transpose, 0, 0, 1},
+    {"residues_multiple", run_multiple, 0, 0, 1},
+    {"residues_sum", run_sum, 1, 0, 1},
+    {"residues_product", run_product, 1, 0, 1},
 };
 
 static int uses(const call *f, int buffer)
 {
-    return buffer == TABLE || (buffer == COLUMN && f->uses_column) || (buffer == RESULT && f->uses_result);
+    const int used[BUFFERS] = {1, f->uses_second, f->uses_column, f->uses_result};
+    return used[buffer];
 }
 
 /* ---- failing ---- */
@@ -193,9 +208,10 @@ static lent prepare(const problem *q, int buffer, size_t count, int at_end)
 
 static void note(const call *f, const numbers *x, const lent *b, int at_end)
 {
-    snprintf(doing, sizeof doing, "%s, p %u n %u r %u s %u i %u j %u c %u, counts %lu %lu %lu, at the %s", f->name, x->p, x->n,
-             x->r, x->s, x->i, x->j, x->c, (unsigned long)b[TABLE].count, (unsigned long)b[COLUMN].count,
-             (unsigned long)b[RESULT].count, at_end ? "end" : "beginning");
+    snprintf(doing, sizeof doing, "%s, p %u n %u r %u s %u i %u j %u c %u r2 %u s2 %u, counts %lu %lu %lu %lu, at the %s", f->name,
+             x->p, x->n, x->r, x->s, x->i, x->j, x->c, x->r2, x->s2, (unsigned long)b[TABLE].count,
+             (unsigned long)b[SECOND].count, (unsigned long)b[COLUMN].count, (unsigned long)b[RESULT].count,
+             at_end ? "end" : "beginning");
 }
 
 static void check_reply(uint64_t reply, uint64_t owed)
@@ -246,7 +262,7 @@ static uint64_t owed_for(const call *f, const problem *q, const size_t *counts)
 static void try_all_counts(const call *f, const problem *q)
 {
     int choice, buffer, as_null, at_end;
-    for (choice = 0; choice < 4 * 4 * 4; choice++) {
+    for (choice = 0; choice < 4 * 4 * 4 * 4; choice++) {
         size_t counts[BUFFERS];
         int rest = choice, repeated = 0;
         for (buffer = 0; buffer < BUFFERS; buffer++, rest /= 4) {
@@ -266,7 +282,7 @@ static void try_all_counts(const call *f, const problem *q)
 /* A number out of limits, in buffers of the right counts and in empty ones. */
 static void try_refused(const call *f, const problem *q, uint64_t owed)
 {
-    static const size_t empty[BUFFERS] = {0, 0, 0};
+    static const size_t empty[BUFFERS] = {0, 0, 0, 0};
     try_counts(f, q, q->needed, 1, 1, owed);
     try_counts(f, q, empty, 1, 1, owed);
 }
@@ -290,18 +306,26 @@ static void try_numbers(const call *f, const problem *q)
         *(k % 2 == 0 ? &wrong.x.r : &wrong.x.s) = wrong_order[k / 2];
         try_refused(f, &wrong, refusal(RESIDUES_BAD_ORDER, RESIDUES_TABLE, 0));
     }
+    for (k = 0; k < 2 * COUNT(wrong_order) && f->uses_second; k++, wrong = *q) {
+        *(k % 2 == 0 ? &wrong.x.r2 : &wrong.x.s2) = wrong_order[k / 2];
+        try_refused(f, &wrong, refusal(RESIDUES_BAD_ORDER, RESIDUES_SECOND_TABLE, 0));
+    }
+    for (k = 0; k < 2 * 8 && f->uses_second; k++, wrong = *q) {
+        *(k % 2 == 0 ? &wrong.x.r : &wrong.x.s) = 1 + (uint32_t)k / 2;
+        *(k % 2 == 0 ? &wrong.x.r2 : &wrong.x.s2) = 8 - (uint32_t)k / 2;
+        try_refused(f, &wrong, refusal(RESIDUES_BAD_ORDER_SUM, 0, 0));
+    }
     for (k = 0; k < 4 && f == &calls[ENTRY]; k++, wrong = *q) {
         *(k % 2 == 0 ? &wrong.x.i : &wrong.x.j) = k < 2 ? 0 : q->x.n + 1;
         try_refused(f, &wrong, refusal(RESIDUES_BAD_PLACE, 0, 0));
     }
 }
 
-/* A word that is not below the prime: the last d of the table, the last of the column, and c. */
+/* A word that is not below the prime: the last d of a table, the last of the column, and c. */
 static void try_words(const call *f, const problem *q)
 {
     problem wrong = *q;
     uint32_t *words;
-    size_t last = (q->x.n - 1) * residues_row_words(q->x.r, q->x.s);
     int buffer;
     for (buffer = TABLE; buffer <= COLUMN; buffer++) {
         if (!uses(f, buffer))
@@ -309,7 +333,7 @@ static void try_words(const call *f, const problem *q)
         words = malloc(q->needed[buffer] * sizeof *words);
         check(words != NULL, "no memory");
         memcpy(words, q->words[buffer], q->needed[buffer] * sizeof *words);
-        words[buffer == TABLE ? last : q->needed[COLUMN] - 1] = q->x.p;
+        words[q->needed[buffer] / q->x.n * (q->x.n - 1)] = q->x.p;
         wrong.words[buffer] = words;
         try_counts(f, &wrong, q->needed, 0, 1, refusal(RESIDUES_BAD_WORD, number_of[buffer], q->x.n));
         wrong.words[buffer] = q->words[buffer];
@@ -320,10 +344,18 @@ static void try_words(const call *f, const problem *q)
         try_counts(f, &wrong, q->needed, 0, 1, refusal(RESIDUES_BAD_WORD, 0, 0));
 }
 
+static void try_whole(const call *f, const problem *q)
+{
+    try_all_counts(f, q);
+    try_numbers(f, q);
+    try_words(f, q);
+}
+
 static void try_problem(int which, numbers x, const uint32_t *table, const uint32_t *column, const uint32_t *result,
                         uint32_t value)
 {
     problem q;
+    memset(&q, 0, sizeof q);
     q.x = x;
     q.words[TABLE] = table;
     q.words[COLUMN] = column;
@@ -332,9 +364,43 @@ static void try_problem(int which, numbers x, const uint32_t *table, const uint3
     q.needed[COLUMN] = x.n;
     q.needed[RESULT] = which == MATRIX ? (size_t)x.n * x.n : which < TRANSPOSE ? x.n : q.needed[TABLE];
     q.value = value;
-    try_all_counts(&calls[which], &q);
-    try_numbers(&calls[which], &q);
-    try_words(&calls[which], &q);
+    try_whole(&calls[which], &q);
+}
+
+/* One buffer, which may not be written, as both tables. */
+static void try_one_buffer_twice(const call *f, const problem *q, int at_end)
+{
+    lent b[BUFFERS];
+    b[TABLE] = prepare(q, TABLE, q->needed[TABLE], at_end);
+    b[COLUMN] = prepare(q, COLUMN, 0, at_end);
+    b[RESULT] = prepare(q, RESULT, q->needed[RESULT], at_end);
+    b[SECOND] = b[TABLE];
+    note(f, &q->x, b, at_end);
+    check_reply(f->run(&q->x, b), 0);
+    check_words(q, &b[TABLE], TABLE, 1);
+    check_words(q, &b[RESULT], RESULT, 1);
+    give_back(&b[TABLE]);
+    give_back(&b[COLUMN]);
+    give_back(&b[RESULT]);
+    passed++;
+}
+
+static void try_pair(int which, numbers x, const uint32_t *first, const uint32_t *second, const uint32_t *result)
+{
+    problem q;
+    memset(&q, 0, sizeof q);
+    q.x = x;
+    q.words[TABLE] = first;
+    q.words[SECOND] = second;
+    q.words[RESULT] = result;
+    q.needed[TABLE] = residues_table_words(x.n, x.r, x.s);
+    q.needed[SECOND] = residues_table_words(x.n, x.r2, x.s2);
+    q.needed[RESULT] = residues_table_words(x.n, x.r + x.r2, x.s + x.s2);
+    try_whole(&calls[which], &q);
+    if (first == second) {
+        try_one_buffer_twice(&calls[which], &q, 0);
+        try_one_buffer_twice(&calls[which], &q, 1);
+    }
 }
 
 /* ---- file M's table ---- */
@@ -348,13 +414,21 @@ static void file_m(void)
     static const uint32_t applied_transpose[] = {6, 2, 1};
     static const uint32_t transposed[] = {1, 0, 0, 1, 2, 0, 0, 3, 1, 3, 2, 1, 2, 1, 5, 4, 0, 0, 0, 0, 3};
     static const uint32_t tripled[] = {3, 0, 0, 2, 3, 0, 0, 2, 3, 2, 1, 6, 3, 1, 1, 2, 0, 0, 0, 0, 4};
-    const numbers x = {7, 3, 1, 1, 3, 1, 3};
+    static const uint32_t twice[] = {2, 0, 0, 0, 0, 0, 0, 2, 2, 1, 1, 0, 0, 0, 0, 0, 0, /* row 1 */
+                                     6, 1, 1, 2, 0, 0, 2, 1, 1, 2, 2, 3, 0, 0, 3, 1, 1, /* row 2 */
+                                     3, 3, 3, 0, 0, 0, 0, 0, 0, 0, 0, 0, 0, 0, 0, 4, 4};
+    static const uint32_t square[] = {0, 0, 0, 0, 0, 0, 0, 2, 2, 1, 1, 0, 0, 0, 0, 0, 0, /* row 1 */
+                                      0, 1, 2, 2, 1, 0, 2, 0, 1, 2, 5, 3, 2, 0, 3, 4, 1, /* row 2 */
+                                      4, 3, 1, 0, 0, 0, 0, 0, 0, 0, 0, 0, 0, 0, 0, 6, 4};
+    const numbers x = {7, 3, 1, 1, 3, 1, 3, 1, 1};
     try_problem(ENTRY, x, table, column, NULL, 5);
     try_problem(MATRIX, x, table, column, matrix, 0);
     try_problem(APPLY, x, table, column, applied, 0);
     try_problem(APPLY_TRANSPOSE, x, table, column, applied_transpose, 0);
     try_problem(TRANSPOSE, x, table, column, transposed, 0);
     try_problem(MULTIPLE, x, table, column, tripled, 0);
+    try_pair(SUM, x, table, table, twice);
+    try_pair(PRODUCT, x, table, table, square);
 }
 
 /* ---- tables of any size whose matrix is known ---- */
@@ -408,7 +482,7 @@ static uint32_t entry_at(numbers x, uint32_t i, uint32_t j)
 /* d 5, p 2, g 3, applied to ones. */
 static void known(uint32_t n, uint32_t r, uint32_t s)
 {
-    const numbers x = {P, n, r, s, n, 1, P - 1};
+    const numbers x = {P, n, r, s, n, 1, P - 1, 0, 0};
     const size_t words = residues_table_words(n, r, s);
     uint32_t *table = room(words), *column = room(n), *square = room((size_t)n * n), *result = room(words);
     uint32_t i, j;
@@ -426,7 +500,7 @@ static void known(uint32_t n, uint32_t r, uint32_t s)
         result[i - 1] = 5 + (i - 1) * 3 * s + (n - i) * 2 * r;
     try_problem(APPLY_TRANSPOSE, x, table, column, result, 0);
     {
-        const numbers turned = {P, n, s, r, 1, 1, 1};
+        const numbers turned = {P, n, s, r, 1, 1, 1, 0, 0};
         fill(result, turned, 5, 1, 3, 1, 2, 0);
         try_problem(TRANSPOSE, x, table, column, result, 0);
     }
@@ -435,6 +509,72 @@ static void known(uint32_t n, uint32_t r, uint32_t s)
     free(table);
     free(column);
     free(square);
+    free(result);
+}
+
+/* x then y, of so many words each. */
+static uint32_t *put_two(uint32_t *w, uint32_t order1, uint32_t order2, int used, uint32_t x, uint32_t y)
+{
+    return put(put(w, order1, used ? x : 0), order2, used ? y : 0);
+}
+
+/* Identities along the diagonal, the corner at upper right, zeros at lower left. */
+static uint32_t *put_joined(uint32_t *w, uint32_t order1, uint32_t order2, int used, uint32_t corner)
+{
+    uint32_t x, y, order = order1 + order2;
+    for (x = 0; x < order; x++)
+        for (y = 0; y < order; y++)
+            *w++ = !used ? 0 : x < order1 && y >= order1 ? corner : x == y;
+    return w;
+}
+
+/* The sum of a table with d 5, p 2, g 3 and one with d 7, p 4, g 6. */
+static void fill_sum(uint32_t *w, numbers x)
+{
+    uint32_t k;
+    for (k = 1; k <= x.n; k++) {
+        const int first = k == 1, last = k == x.n;
+        w = put(w, 1, 12);
+        w = put_two(w, x.r, x.r2, !first, 2, 4);
+        w = put_joined(w, x.r, x.r2, !first && !last, 0);
+        w = put_two(w, x.r, x.r2, !last, 1, 1);
+        w = put_two(w, x.s, x.s2, !last, 3, 6);
+        w = put_joined(w, x.s, x.s2, !first && !last, 0);
+        w = put_two(w, x.s, x.s2, !first, 1, 1);
+    }
+}
+
+/* Their product: every residue of X is six times the rows above, every residue of Y four times the rows below. */
+static void fill_product(uint32_t *w, numbers x)
+{
+    uint32_t k;
+    for (k = 1; k <= x.n; k++) {
+        const int first = k == 1, last = k == x.n;
+        const uint32_t of_x = 6 * (k - 1), of_y = 4 * (x.n - k);
+        w = put(w, 1, 2 * x.r * of_x * x.s2 + 35 + 3 * x.s * of_y * x.r2);
+        w = put_two(w, x.r, x.r2, !first, 2, 20 + 3 * x.s * of_y);
+        w = put_joined(w, x.r, x.r2, !first && !last, 4);
+        w = put_two(w, x.r, x.r2, !last, of_x * x.s2 + 7, 1);
+        w = put_two(w, x.s, x.s2, !last, 3, 2 * x.r * of_x + 30);
+        w = put_joined(w, x.s, x.s2, !first && !last, 6);
+        w = put_two(w, x.s, x.s2, !first, 7 + of_y * x.r2, 1);
+    }
+}
+
+/* The sum and the product of two tables whose matrices are known. */
+static void known_pair(uint32_t n, uint32_t r1, uint32_t s1, uint32_t r2, uint32_t s2)
+{
+    const numbers x = {P, n, r1, s1, 1, 1, 1, r2, s2}, y = {P, n, r2, s2, 1, 1, 1, 0, 0};
+    uint32_t *first = room(residues_table_words(n, r1, s1)), *second = room(residues_table_words(n, r2, s2));
+    uint32_t *result = room(residues_table_words(n, r1 + r2, s1 + s2));
+    fill(first, x, 5, 2, 1, 3, 1, 4294967295u);
+    fill(second, y, 7, 4, 1, 6, 1, 4294967294u);
+    fill_sum(result, x);
+    try_pair(SUM, x, first, second, result);
+    fill_product(result, x);
+    try_pair(PRODUCT, x, first, second, result);
+    free(first);
+    free(second);
     free(result);
 }
 
@@ -450,6 +590,15 @@ int main(void)
     known(2, 3, 1);
     known(1024, 1, 1);
     known(1024, 8, 8);
+    known_pair(1, 0, 0, 0, 0);
+    known_pair(1, 1, 2, 3, 1);
+    known_pair(1, 4, 4, 4, 4);
+    known_pair(2, 3, 1, 2, 2);
+    known_pair(3, 8, 0, 0, 8);
+    known_pair(3, 0, 8, 8, 0);
+    known_pair(1024, 1, 1, 1, 1);
+    known_pair(1024, 4, 4, 4, 4);
+    known_pair(1024, 3, 6, 5, 2);
     printf("boundary: %lu calls passed\n", passed);
     return 0;
 }

@@ -1,6 +1,7 @@
 //! A case: the numbers and the buffers handed to a call, and the faults planted in it.
 
 use crate::dense::Table;
+use crate::joined::Pair;
 use crate::layout::Shape;
 
 /// What a buffer has room for.
@@ -8,6 +9,8 @@ use crate::layout::Shape;
 pub enum Holds {
     /// A table of the orders of the first lent table (0) or of the second (1).
     Table(usize),
+    /// A table of the added orders of both.
+    Joined,
     /// N words.
     Column,
     /// N² words.
@@ -22,7 +25,7 @@ pub struct Buffer {
     pub words: Vec<u32>,
     /// An empty buffer that is handed over as NULL.
     pub null: bool,
-    /// The column is the first table's own memory.
+    /// The buffer is the first table's own memory.
     pub shared: bool,
 }
 
@@ -44,6 +47,7 @@ pub enum Fault {
     Short(u32),
     Factor,
     Place,
+    OrderSums,
     Orders(usize),
     Size,
     Prime,
@@ -71,10 +75,25 @@ impl Case {
         Shape { n: self.n as usize, r: r as usize, s: s as usize }
     }
 
+    /// The shape of a sum or product.
+    pub fn joined(&self) -> Shape {
+        self.shape(0).joined(self.shape(1))
+    }
+
+    /// The shape of the table that a buffer has room for.
+    pub fn table_shape(&self, holds: Holds) -> Option<Shape> {
+        match holds {
+            Holds::Table(which) => Some(self.shape(which)),
+            Holds::Joined => Some(self.joined()),
+            Holds::Column | Holds::Square => None,
+        }
+    }
+
     /// The words that a buffer needs; N and the orders are within limits.
     pub fn needed(&self, holds: Holds) -> usize {
         match holds {
             Holds::Table(which) => self.shape(which).table_words(),
+            Holds::Joined => self.joined().table_words(),
             Holds::Column => self.n as usize,
             Holds::Square => self.n as usize * self.n as usize,
         }
@@ -96,5 +115,11 @@ impl Case {
     /// The first table, for the dense program.
     pub fn table(&self) -> Table<'_> {
         Table { p: self.p, shape: self.shape(0), words: &self.buffer(1).words }
+    }
+
+    /// Both tables.
+    pub fn pair(&self) -> Pair<'_> {
+        let two = Table { p: self.p, shape: self.shape(1), words: &self.buffer(2).words };
+        Pair { one: self.table(), two }
     }
 }

@@ -5,7 +5,7 @@ use crate::case::{Buffer, Case, Fault, Holds};
 use crate::faults;
 use crate::layout::Shape;
 use crate::random::Random;
-use crate::refusals::{is_prime, LARGEST_PRIME};
+use crate::refusals::{is_prime, LARGEST_ORDER, LARGEST_PRIME};
 
 const PRIMES: [u32; 7] = [2, 3, 5, 7, 101, 2_147_483_629, LARGEST_PRIME];
 
@@ -27,7 +27,7 @@ pub fn draw(call: &Call, random: &mut Random) -> Case {
 /// All numbers within limits, all buffers exact.
 pub fn sound(call: &Call, random: &mut Random) -> Case {
     let (p, n) = (draw_prime(random), draw_size(random));
-    let orders = (0..call.tables).map(|_| (draw_order(n, random), draw_order(n, random))).collect();
+    let orders = draw_orders(call.tables, n, random);
     let mut case = Case { p, n, orders, place: (1, 1), c: 1, buffers: vec![], faults: vec![] };
     match call.number {
         Number::None => {}
@@ -43,7 +43,7 @@ pub fn sound(call: &Call, random: &mut Random) -> Case {
 }
 
 /// Mostly of the list, else a prime of any length.
-fn draw_prime(random: &mut Random) -> u32 {
+pub fn draw_prime(random: &mut Random) -> u32 {
     if !random.once_in(4) {
         return random.one_of(&PRIMES);
     }
@@ -73,6 +73,26 @@ fn draw_order(n: u32, random: &mut Random) -> u32 {
         10..=11 => 3,
         12..=13 => random.between(4, 8),
         _ => 8,
+    }
+}
+
+/// r and s of each table; those of two tables add up to at most 8, often to 8, and at times are the same.
+fn draw_orders(tables: usize, n: u32, random: &mut Random) -> Vec<(u32, u32)> {
+    let (r, s) = (draw_order(n, random), draw_order(n, random));
+    match tables {
+        1 => vec![(r, s)],
+        _ if random.once_in(6) => vec![(r.min(4), s.min(4)); 2],
+        _ => vec![(r, s), (draw_beside(r, n, random), draw_beside(s, n, random))],
+    }
+}
+
+/// The second table's order beside the first's.
+fn draw_beside(order: u32, n: u32, random: &mut Random) -> u32 {
+    let most = LARGEST_ORDER - order;
+    match random.below(6) {
+        0 | 1 if n <= 100 || random.once_in(8) => most,
+        2 => 0,
+        _ => draw_order(n, random).min(most),
     }
 }
 
@@ -152,10 +172,16 @@ fn draw_words(case: &Case, buffer: &Buffer, random: &mut Random) -> Vec<u32> {
     if !buffer.is_read() {
         return (0..needed).map(|_| random.word()).collect();
     }
-    let mut words = draw_residues(case.p, needed, random);
-    if let Holds::Table(which) = buffer.holds {
-        fill_idle(&mut words, case.p, case.shape(which), random);
+    match buffer.holds {
+        Holds::Table(which) => draw_table(case.p, case.shape(which), random),
+        _ => draw_residues(case.p, needed, random),
     }
+}
+
+/// A table's words, exact: residues where they are used.
+pub fn draw_table(p: u32, shape: Shape, random: &mut Random) -> Vec<u32> {
+    let mut words = draw_residues(p, shape.table_words(), random);
+    fill_idle(&mut words, p, shape, random);
     words
 }
 
@@ -181,15 +207,16 @@ fn add_surplus(case: &mut Case, random: &mut Random) {
     }
 }
 
-/// At times the column is the first table's own memory: two buffers that are only read may be the same.
+/// At times the second table or the column is the first table's own memory: two buffers that are only read may be the same.
 fn share(case: &mut Case, random: &mut Random) {
-    let own = |fault: &Fault| matches!(fault, Fault::Short(3) | Fault::Word(3));
-    if case.faults.iter().any(own) || !random.once_in(12) {
+    let own = |fault: &Fault| matches!(fault, Fault::Short(2 | 3) | Fault::Word(2 | 3));
+    let alike = case.orders.iter().all(|&orders| orders == case.orders[0]);
+    if case.faults.iter().any(own) || !random.once_in(if alike { 12 } else { 50 }) {
         return;
     }
     let words = case.buffer(1).words.clone();
-    if let Some(column) = case.buffers.iter_mut().find(|buffer| buffer.number == 3) {
-        column.words = words;
-        column.shared = true;
+    if let Some(buffer) = case.buffers.iter_mut().find(|buffer| (2..=3).contains(&buffer.number)) {
+        buffer.words = words;
+        buffer.shared = true;
     }
 }

@@ -13,7 +13,7 @@ extern "C" {
     fn signal(number: i32, handler: extern "C" fn(i32)) -> usize;
 }
 
-/// Notes the random case that this thread is about to run.
+/// Notes the random case or the trial that this thread is about to run.
 pub fn note(call: &'static str, number: u64) {
     NOW.set(Some((call, number)));
 }
@@ -26,7 +26,7 @@ pub fn watch() {
 
 extern "C" fn report(number: i32) {
     match NOW.get() {
-        Some((call, case)) => println!("signal {number} in case {case} of {call}; again: residues_tests {call} {case}"),
+        Some((call, case)) => println!("signal {number} in {call} {case}; again: residues_tests {call} {case}"),
         None => println!("signal {number} in an example or at a limit"),
     }
     std::process::exit(1);

@@ -6,6 +6,8 @@ use crate::refusals::{Reply, LARGEST_PRIME};
 use crate::tally::Tally;
 use crate::trial::{compare, owed};
 
+mod two;
+
 const ANY: u32 = u32::MAX;
 
 /// The calls that are lent one table and sweep no pivots.
@@ -30,7 +32,8 @@ pub fn run(tally: &mut Tally) -> Result<(), String> {
     examples.idle_words()?;
     examples.order_of_products()?;
     examples.large_products()?;
-    examples.one_table_as_column()
+    examples.one_table_as_column()?;
+    examples.on_two_tables()
 }
 
 struct Examples<'t> {

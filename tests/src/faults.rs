@@ -17,6 +17,9 @@ const NO_PRIMES: [u32; 26] = [
 pub fn all(call: &Call) -> Vec<Fault> {
     let mut faults = vec![Fault::Prime, Fault::Size];
     faults.extend((0..call.tables).map(Fault::Orders));
+    if call.tables == 2 {
+        faults.push(Fault::OrderSums);
+    }
     match call.number {
         Number::None => {}
         Number::Place => faults.push(Fault::Place),
@@ -42,6 +45,7 @@ pub fn plant(case: &mut Case, fault: Fault, random: &mut Random) {
         Fault::Prime => case.p = draw_no_prime(random),
         Fault::Size => case.n = random.one_of(&[0, 0, 1_025, 1_025, 1_026, 2_048, 65_536, 65_537, 0x8000_0000, u32::MAX]),
         Fault::Orders(which) => plant_order(&mut case.orders[which], random),
+        Fault::OrderSums => plant_order_sums(case, random),
         Fault::Place => plant_place(case, random),
         Fault::Factor => case.c = not_below(case.p, random),
         Fault::Short(number) => cut(case, number, random),
@@ -56,6 +60,22 @@ fn plant_order(orders: &mut (u32, u32), random: &mut Random) {
         1 => orders.1 = above,
         _ => *orders = (above, above),
     }
+}
+
+/// Orders within limits whose r's, s's or both add up to more than 8, mostly to 9.
+fn plant_order_sums(case: &mut Case, random: &mut Random) {
+    let which = random.below(3);
+    if which != 1 {
+        (case.orders[0].0, case.orders[1].0) = draw_above(random);
+    }
+    if which != 0 {
+        (case.orders[0].1, case.orders[1].1) = draw_above(random);
+    }
+}
+
+fn draw_above(random: &mut Random) -> (u32, u32) {
+    let one = random.between(1, 8);
+    (one, if random.once_in(3) { random.between(9 - one, 8) } else { 9 - one })
 }
 
 fn plant_place(case: &mut Case, random: &mut Random) {

@@ -23,6 +23,11 @@ pub struct Shape {
 }
 
 impl Shape {
+    /// The shape of a sum or product: the orders are added.
+    pub fn joined(self, other: Shape) -> Shape {
+        Shape { n: self.n, r: self.r + other.r, s: self.s + other.s }
+    }
+
     pub fn row_words(self) -> usize {
         KINDS.iter().map(|&kind| self.block_words(kind)).sum()
     }

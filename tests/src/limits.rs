@@ -26,7 +26,7 @@ fn primes(tally: &mut Tally) -> Result<(), String> {
     let squares = [46_327 * 46_327, 46_337 * 46_337, 46_339 * 46_339];
     let large = squares.into_iter().chain([65_536, 1 << 31, u32::MAX - 60]).flat_map(around);
     for p in (0..=3_000).chain(large) {
-        check(&entry::CALL, zeros(&entry::CALL, p, 1, (0, 0)), tally)?;
+        check(&entry::CALL, zeros(&entry::CALL, p, 1, &[0, 0]), tally)?;
     }
     Ok(())
 }
@@ -34,33 +34,47 @@ fn primes(tally: &mut Tally) -> Result<(), String> {
 fn sizes(call: &Call, tally: &mut Tally) -> Result<(), String> {
     let sizes = (0..=20).chain(1_015..=1_034).chain([2_048, 65_536, 65_537, 66_560, 1 << 31, u32::MAX]);
     for n in sizes {
-        check(call, zeros(call, 7, n, (0, 0)), tally)?;
+        check(call, zeros(call, 7, n, &vec![0; 2 * call.tables]), tally)?;
     }
     Ok(())
 }
 
+/// The orders of one table to 10, those of two to 9; far ones in each place, also such that would add up to 2³² or more.
 fn orders(call: &Call, tally: &mut Tally) -> Result<(), String> {
-    for pair in 0..11 * 11 {
-        check(call, zeros(call, 7, 3, (pair / 11, pair % 11)), tally)?;
+    let places = 2 * call.tables;
+    let bound: u32 = if call.tables == 1 { 11 } else { 10 };
+    for choice in 0..bound.pow(places as u32) {
+        let orders: Vec<u32> = (0..places as u32).map(|place| choice / bound.pow(place) % bound).collect();
+        check(call, zeros(call, 7, 3, &orders), tally)?;
     }
-    for order in [255, 256, 65_535, 65_536, 65_544, 1 << 31, u32::MAX] {
-        check(call, zeros(call, 7, 3, (order, 1)), tally)?;
-        check(call, zeros(call, 7, 3, (1, order)), tally)?;
+    for order in [255, 256, 65_535, 65_536, 65_544, 1 << 31, u32::MAX - 1, u32::MAX] {
+        for place in 0..places {
+            for others in [0, 1, 2, 8] {
+                let orders: Vec<u32> = (0..places).map(|other| if other == place { order } else { others }).collect();
+                check(call, zeros(call, 7, 3, &orders), tally)?;
+            }
+        }
+        check(call, zeros(call, 7, 3, &vec![order; places]), tally)?;
     }
     Ok(())
 }
 
-/// The zero matrix and column, in buffers that are long enough wherever N is at most 2,048 and the orders at most 10.
-fn zeros(call: &Call, p: u32, n: u32, orders: (u32, u32)) -> Case {
-    let (rows, r, s) = (n.min(2_048) as usize, orders.0.min(10) as usize, orders.1.min(10) as usize);
+/// Zero matrices and a zero column, in buffers that are long enough wherever N is at most 2,048 and the orders at most 10.
+fn zeros(call: &Call, p: u32, n: u32, orders: &[u32]) -> Case {
+    let orders: Vec<(u32, u32)> = orders.chunks(2).map(|pair| (pair[0], pair[1])).collect();
+    let rows = n.min(2_048) as usize;
+    let capped = |(r, s): (u32, u32)| (r.min(10) as usize, s.min(10) as usize);
+    let table = |(r, s): (usize, usize)| rows * (1 + 2 * r + r * r + 2 * s + s * s);
+    let joined = || orders.iter().map(|&pair| capped(pair)).fold((0, 0), |(r, s), other| (r + other.0, s + other.1));
     let buffer = |&(number, holds): &(u32, Holds)| {
         let count = match holds {
-            Holds::Table(_) => rows * (1 + 2 * r + r * r + 2 * s + s * s),
+            Holds::Table(which) => table(capped(orders[which])),
+            Holds::Joined => table(joined()),
             Holds::Column => rows,
             Holds::Square => rows * rows,
         };
         Buffer::new(number, holds, vec![if number <= 3 { 0 } else { 9 }; count])
     };
     let buffers = call.buffers.iter().map(buffer).collect();
-    Case { p, n, orders: vec![orders; call.tables], place: (1, 1), c: 0, buffers, faults: vec![] }
+    Case { p, n, orders, place: (1, 1), c: 0, buffers, faults: vec![] }
 }

@@ -1,6 +1,8 @@
 //! Compares every call of the library, accepted and refused, with a dense program.
-//! `residues_tests` runs everything; `residues_tests CALL NUMBER` runs one random case again.
+//! `residues_tests` runs everything; `residues_tests CALL NUMBER` runs one random case again, `residues_tests LAW NUMBER` one
+//! trial of a law.
 
+mod block;
 mod calls;
 mod case;
 mod cases;
@@ -8,6 +10,8 @@ mod crash;
 mod dense;
 mod examples;
 mod faults;
+mod joined;
+mod laws;
 mod layout;
 mod lent;
 mod limits;
@@ -18,6 +22,7 @@ mod together;
 mod trial;
 
 use calls::{Call, CALLS};
+use laws::{Law, LAWS};
 use random::Random;
 use std::process::ExitCode;
 use std::sync::atomic::{AtomicBool, Ordering};
@@ -68,7 +73,8 @@ fn everything(tally: &mut Tally) -> Result<(), String> {
     }
 }
 
-/// The random cases of every call, dealt out to threads: calls share nothing, so they may run at the same time.
+/// The random cases of every call and the trials of every law, dealt out to threads: calls share nothing, so they may run at the
+/// same time.
 fn side_by_side() -> [(Tally, Result<(), String>); THREADS] {
     std::thread::scope(|scope| {
         let threads: [_; THREADS] = std::array::from_fn(|first| scope.spawn(move || random_cases(first as u64)));
@@ -81,20 +87,34 @@ fn random_cases(first: u64) -> (Tally, Result<(), String>) {
     let numbers = || (first..CASES_A_CALL).step_by(THREADS);
     let cases = CALLS.into_iter().flat_map(|call| numbers().map(move |number| (call, number)));
     let mut going = cases.take_while(|_| !FAILED.load(Ordering::Relaxed));
-    let ended = going.try_for_each(|(call, number)| random_case(call, number, &mut tally));
+    let ended = going.try_for_each(|(call, number)| random_case(call, number, &mut tally)).and_then(|()| laws(first, &mut tally));
     FAILED.fetch_or(ended.is_err(), Ordering::Relaxed);
     (tally, ended)
 }
 
+fn laws(first: u64, tally: &mut Tally) -> Result<(), String> {
+    let trials = LAWS.iter().flat_map(|law| (first..law.times).step_by(THREADS).map(move |number| (law, number)));
+    let mut going = trials.take_while(|_| !FAILED.load(Ordering::Relaxed));
+    going.try_for_each(|(law, number)| law_trial(law, number, tally))
+}
+
+fn law_trial(law: &Law, number: u64, tally: &mut Tally) -> Result<(), String> {
+    crash::note(law.name, number);
+    law.trial(number, tally)
+}
+
 fn again(name: &str, number: &str, tally: &mut Tally) -> Result<(), String> {
-    let call = CALLS.into_iter().find(|call| call.name == name).ok_or("no such call")?;
-    random_case(call, number.parse().map_err(|_| "no such case")?, tally)
+    let number = number.parse().map_err(|_| "no such case")?;
+    match (CALLS.into_iter().find(|call| call.name == name), LAWS.iter().find(|law| law.name == name)) {
+        (Some(call), _) => random_case(call, number, tally),
+        (_, Some(law)) => law_trial(law, number, tally),
+        _ => Err("no such call or law".into()),
+    }
 }
 
 /// The case of a call that belongs to a number, always the same.
 fn random_case(call: &Call, number: u64, tally: &mut Tally) -> Result<(), String> {
-    let seed = call.name.bytes().fold(number, |seed, letter| seed.wrapping_mul(1_000_003).wrapping_add(letter as u64));
-    let case = cases::draw(call, &mut Random::seeded(seed));
+    let case = cases::draw(call, &mut Random::named(call.name, number));
     crash::note(call.name, number);
     let reply = trial::trial(call, &case).map_err(|account| format!("case {number} of {account}"))?;
     tally.record(call, &case, reply);
@@ -108,6 +128,10 @@ fn check_dense_program() {
         let case = cases::sound(&calls::multiple::CALL, &mut random);
         if case.n <= 30 {
             dense::check_itself(case.table(), case.c);
+        }
+        let case = cases::sound(&calls::product::CALL, &mut random);
+        if case.n <= 30 {
+            joined::check_itself(case.pair());
         }
     }
 }

@@ -7,6 +7,11 @@ impl Random {
         Random(seed)
     }
 
+    /// A generator for each number under each name.
+    pub fn named(name: &str, number: u64) -> Random {
+        Random(name.bytes().fold(number, |seed, letter| seed.wrapping_mul(1_000_003).wrapping_add(letter as u64)))
+    }
+
     pub fn word64(&mut self) -> u64 {
         self.0 = self.0.wrapping_add(0x9e37_79b9_7f4a_7c15);
         let x = (self.0 ^ self.0 >> 30).wrapping_mul(0xbf58_476d_1ce4_e5b9);

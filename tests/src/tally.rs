@@ -12,6 +12,7 @@ pub struct Tally {
     outcomes: BTreeMap<(&'static str, u32, u32), usize>,
     traits: BTreeMap<(&'static str, &'static str), usize>,
     pairs: BTreeSet<(&'static str, Fault, Fault)>,
+    laws: BTreeMap<&'static str, usize>,
 }
 
 /// A trait of a case that must occur with every call, and whether this case has it.
@@ -29,12 +30,46 @@ const ACCEPTED: [Trait; 15] = [
     ("r and s are 0", |case| case.orders[0] == (0, 0)),
     ("r is 8", |case| case.orders[0].0 == 8),
     ("s is 8", |case| case.orders[0].1 == 8),
-    ("idle word not below P in row 1", |case| has_high_idle(case, 1)),
-    ("idle word not below P in row N", |case| has_high_idle(case, case.n)),
+    ("idle word not below P in row 1", |case| has_high_idle(case, 1, 1)),
+    ("idle word not below P in row N", |case| has_high_idle(case, 1, case.n)),
     ("no surplus", |case| case.buffers.iter().all(|buffer| buffer.words.len() == case.needed(buffer.holds))),
     ("surplus in every buffer", |case| case.buffers.iter().all(|buffer| buffer.words.len() > case.needed(buffer.holds))),
-    ("surplus not below P", |case| case.buffer(1).words[case.needed(case.buffer(1).holds)..].iter().any(|&word| word >= case.p)),
+    ("surplus not below P", |case| has_high_surplus(case, 1)),
 ];
+
+/// Traits of accepted cases with two tables.
+const ACCEPTED_TWO: [Trait; 18] = [
+    ("r1 + r2 is 8, both are not 0", |case| case.joined().r == 8 && lower(case) == (true, true)),
+    ("s1 + s2 is 8, both are not 0", |case| case.joined().s == 8 && upper(case) == (true, true)),
+    ("both sums are 8", |case| case.joined().r == 8 && case.joined().s == 8),
+    ("r1 is 0, r2 is not", |case| lower(case) == (false, true)),
+    ("r2 is 0, r1 is not", |case| lower(case) == (true, false)),
+    ("s1 is 0, s2 is not", |case| upper(case) == (false, true)),
+    ("s2 is 0, s1 is not", |case| upper(case) == (true, false)),
+    ("second r and s are 0, first are not", |case| case.orders[1] == (0, 0) && case.orders[0].0.min(case.orders[0].1) > 0),
+    ("all orders are 0", |case| case.orders == [(0, 0), (0, 0)]),
+    ("r2 is 8", |case| case.orders[1].0 == 8),
+    ("s2 is 8", |case| case.orders[1].1 == 8),
+    ("all orders are above 1, N above 3", |case| case.n > 3 && case.orders.iter().all(|&(r, s)| r > 1 && s > 1)),
+    ("all orders differ", |case| {
+        let ((r1, s1), (r2, s2)) = (case.orders[0], case.orders[1]);
+        BTreeSet::from([r1, s1, r2, s2]).len() == 4
+    }),
+    ("the same orders, N above 1", |case| case.n > 1 && case.orders[0] == case.orders[1] && case.orders[0] != (0, 0)),
+    ("P is 2,147,483,647, sum 8, N above 3", |case| case.p == LARGEST_PRIME && case.joined().r == 8 && case.n > 3),
+    ("second idle word not below P in row 1", |case| has_high_idle(case, 2, 1)),
+    ("second idle word not below P in row N", |case| has_high_idle(case, 2, case.n)),
+    ("second surplus not below P", |case| has_high_surplus(case, 2)),
+];
+
+/// Whether the lower orders of the two tables are not 0.
+fn lower(case: &Case) -> (bool, bool) {
+    (case.orders[0].0 > 0, case.orders[1].0 > 0)
+}
+
+fn upper(case: &Case) -> (bool, bool) {
+    (case.orders[0].1 > 0, case.orders[1].1 > 0)
+}
 
 /// Traits of refused cases.
 const REFUSED: [Trait; 3] = [
@@ -45,10 +80,16 @@ const REFUSED: [Trait; 3] = [
 
 const BAD_FIRST: &str = "bad word first in row 1";
 const BAD_LAST: &str = "bad word first in row N";
-const SHARED: &str = "the column is the table's memory";
+const SHARED: &str = "a buffer is the first table's memory";
 
-fn has_high_idle(case: &Case, k: u32) -> bool {
-    case.shape(0).idle_places(k as usize).any(|place| case.buffer(1).words[place] >= case.p)
+/// Whether a table, the first or the second, has an idle word in row k that is no residue.
+fn has_high_idle(case: &Case, number: u32, k: u32) -> bool {
+    case.shape(number as usize - 1).idle_places(k as usize).any(|place| case.buffer(number).words[place] >= case.p)
+}
+
+fn has_high_surplus(case: &Case, number: u32) -> bool {
+    let buffer = case.buffer(number);
+    buffer.words[case.needed(buffer.holds)..].iter().any(|&word| word >= case.p)
 }
 
 impl Tally {
@@ -56,8 +97,8 @@ impl Tally {
     pub fn record(&mut self, call: &Call, case: &Case, reply: Reply) {
         self.passed += 1;
         *self.outcomes.entry((call.name, reply.number, reply.buffer)).or_default() += 1;
-        let list = if reply.number == 0 { &ACCEPTED[..] } else { &REFUSED[..] };
-        list.iter().filter(|(_, holds)| holds(case)).for_each(|&(name, _)| self.count(call, name));
+        let lists = if reply.number == 0 { accepted(call) } else { vec![&REFUSED[..]] };
+        lists.concat().iter().filter(|(_, holds)| holds(case)).for_each(|&(name, _)| self.count(call, name));
         if reply.number == 5 && reply.row == 1 {
             self.count(call, BAD_FIRST);
         }
@@ -78,6 +119,12 @@ impl Tally {
         other.outcomes.into_iter().for_each(|(key, count)| *self.outcomes.entry(key).or_default() += count);
         other.traits.into_iter().for_each(|(key, count)| *self.traits.entry(key).or_default() += count);
         self.pairs.extend(other.pairs);
+        other.laws.into_iter().for_each(|(name, count)| *self.laws.entry(name).or_default() += count);
+    }
+
+    /// Counts a law that held of calls that passed.
+    pub fn law(&mut self, name: &'static str) {
+        *self.laws.entry(name).or_default() += 1;
     }
 
     fn count(&mut self, call: &Call, name: &'static str) {
@@ -92,6 +139,8 @@ impl Tally {
                 counts.map(|((_, number, buffer), count)| format!("{}: {count}", outcome(*number, *buffer))).collect();
             println!("{:25} {}", call.name, text.join(", "));
         }
+        let text: Vec<String> = self.laws.iter().map(|(name, count)| format!("{name}: {count}")).collect();
+        println!("{:25} {}", "laws", text.join(", "));
         let mut rare: Vec<_> = self.traits.iter().map(|((call, name), count)| (count, call, name)).collect();
         rare.sort();
         let text: Vec<String> = rare.iter().take(4).map(|(count, call, name)| format!("{call}, {name}: {count}")).collect();
@@ -117,12 +166,20 @@ impl Tally {
 }
 
 fn traits_of(call: &Call) -> Vec<&'static str> {
-    let mut names: Vec<&str> = ACCEPTED.iter().chain(&REFUSED).map(|&(name, _)| name).collect();
+    let mut names: Vec<&str> = accepted(call).concat().iter().chain(&REFUSED).map(|&(name, _)| name).collect();
     names.extend([BAD_FIRST, BAD_LAST]);
-    if call.buffers.iter().any(|&(number, _)| number == 3) {
+    if call.buffers.iter().any(|&(number, _)| (2..=3).contains(&number)) {
         names.push(SHARED);
     }
     names
+}
+
+fn accepted(call: &Call) -> Vec<&'static [Trait]> {
+    if call.tables == 2 {
+        vec![&ACCEPTED, &ACCEPTED_TWO]
+    } else {
+        vec![&ACCEPTED]
+    }
 }
 
 fn all_pairs(call: &Call) -> Vec<(Fault, Fault)> {

@@ -2,6 +2,7 @@
 
 use crate::calls::{Answer, Call};
 use crate::case::{Buffer, Case, Holds};
+use crate::dense::Table;
 use crate::lent::Lent;
 use crate::refusals::{orders, size, Reply};
 
@@ -20,17 +21,47 @@ pub fn owed(call: &Call, case: &Case) -> Owed {
     Owed { reply: Reply::accepted(value), written }
 }
 
-/// Runs a case and compares the reply and every word of every buffer.
+/// Runs a case and compares the reply, every word of every buffer, and the meaning of the result.
 pub fn trial(call: &Call, case: &Case) -> Result<Reply, String> {
-    compare(call, case, &owed(call, case))
+    Ok(ended(call, case)?.0)
 }
 
-pub fn compare(call: &Call, case: &Case, owed: &Owed) -> Result<Reply, String> {
+/// The same, with the buffers as the call left them.
+pub fn ended(call: &Call, case: &Case) -> Result<(Reply, Lent), String> {
+    let owed = owed(call, case);
+    let lent = compare(call, case, &owed)?;
+    meaning(call, case, &owed, &lent).map_err(|what| format!("{}{}\n  {what}", call.name, describe(case)))?;
+    Ok((owed.reply, lent))
+}
+
+/// Runs a case that must be accepted, and gives the result, which is compared elsewhere.
+pub fn only_accepted(call: &Call, case: &Case) -> Result<Vec<u32>, String> {
+    let mut lent = Lent::new(case);
+    match (call.run)(case, &mut lent) {
+        0 => Ok(lent.words(5).to_vec()),
+        reply => Err(format!("{} is not accepted: {}", call.name, Reply::unpacked(reply))),
+    }
+}
+
+/// What is wrong with the table that an accepted call left as its result.
+fn meaning(call: &Call, case: &Case, owed: &Owed, lent: &Lent) -> Result<(), String> {
+    if owed.reply.number != 0 {
+        return Ok(());
+    }
+    let result = case.buffers.iter().find(|buffer| buffer.number == 5);
+    match result.and_then(|buffer| case.table_shape(buffer.holds)) {
+        Some(shape) => (call.meaning)(case, Table { p: case.p, shape, words: lent.words(5) }),
+        None => Ok(()),
+    }
+}
+
+/// Runs a case and compares the reply and every word of every buffer with what is owed.
+pub fn compare(call: &Call, case: &Case, owed: &Owed) -> Result<Lent, String> {
     let mut lent = Lent::new(case);
     let reply = (call.run)(case, &mut lent);
     let differences: Vec<String> = case.buffers.iter().filter_map(|buffer| difference(case, buffer, owed, &lent)).collect();
     if reply == owed.reply.packed() && differences.is_empty() && lent.first_overrun().is_none() {
-        return Ok(owed.reply);
+        return Ok(lent);
     }
     let mut account = format!("{}{}", call.name, describe(case));
     account += &format!("\n  reply owed {}, came {}", owed.reply, Reply::unpacked(reply));
@@ -61,6 +92,10 @@ fn owner(case: &Case, buffer: &Buffer, place: usize) -> String {
     match buffer.holds {
         holds if place >= case.needed(holds) => " (surplus)".into(),
         Holds::Table(which) => format!(" (row {})", case.shape(which).owner(place).1),
+        Holds::Joined => {
+            let (kind, row) = case.joined().owner(place);
+            format!(" ({kind:?} of row {row})")
+        }
         Holds::Column => format!(" (row {})", place + 1),
         Holds::Square => format!(" (entry {}, {})", place / case.n as usize + 1, place % case.n as usize + 1),
     }
@@ -75,7 +110,7 @@ fn describe(case: &Case) -> String {
         let note = if buffer.null {
             " (NULL)"
         } else if buffer.shared {
-            " (the table's memory)"
+            " (the first table's memory)"
         } else {
             ""
         };

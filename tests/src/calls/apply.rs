@@ -1,6 +1,6 @@
 //! The table times a column.
 
-use super::{Answer, Call, Number};
+use super::{no_more, Answer, Call, Number};
 use crate::case::{Case, Holds};
 use crate::lent::Lent;
 use crate::refusals::{lengths, orders, prime, size, words};
@@ -28,6 +28,7 @@ pub const CALL: Call = Call {
     checks: &[prime, size, orders, lengths, words],
     outcomes: &[(0, 0), (1, 0), (2, 0), (3, 1), (4, 1), (4, 3), (4, 5), (5, 1), (5, 3)],
     answer,
+    meaning: no_more,
     run,
 };
 

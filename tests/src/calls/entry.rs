@@ -1,6 +1,6 @@
 //! The entry at (i, j), as the reply's value.
 
-use super::{Answer, Call, Number};
+use super::{no_more, Answer, Call, Number};
 use crate::case::{Case, Holds};
 use crate::lent::Lent;
 use crate::refusals::{lengths, orders, place, prime, size, words};
@@ -17,6 +17,7 @@ pub const CALL: Call = Call {
     checks: &[prime, size, orders, place, lengths, words],
     outcomes: &[(0, 0), (1, 0), (2, 0), (3, 1), (8, 0), (4, 1), (5, 1)],
     answer,
+    meaning: no_more,
     run,
 };
 

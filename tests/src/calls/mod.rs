@@ -2,6 +2,7 @@
 //! A further call is one more module and one more element of CALLS.
 
 use crate::case::{Case, Holds};
+use crate::dense::Table;
 use crate::lent::Lent;
 use crate::refusals::Check;
 
@@ -10,10 +11,20 @@ pub mod apply_transpose;
 pub mod entry;
 pub mod matrix;
 pub mod multiple;
+pub mod product;
+pub mod sum;
 pub mod transpose;
 
-pub const CALLS: [&Call; 6] =
-    [&entry::CALL, &matrix::CALL, &apply::CALL, &apply_transpose::CALL, &transpose::CALL, &multiple::CALL];
+pub const CALLS: [&Call; 8] = [
+    &entry::CALL,
+    &matrix::CALL,
+    &apply::CALL,
+    &apply_transpose::CALL,
+    &transpose::CALL,
+    &multiple::CALL,
+    &sum::CALL,
+    &product::CALL,
+];
 
 /// What a call takes beside P, N and the orders.
 #[derive(Clone, Copy, PartialEq)]
@@ -39,8 +50,15 @@ pub struct Call {
     pub outcomes: &'static [(u32, u32)],
     /// What is owed where every check passes.
     pub answer: fn(&Case) -> Answer,
+    /// What is wrong with the matrix of the table that an accepted call left as its result, beside the words.
+    pub meaning: fn(&Case, Table) -> Result<(), String>,
     /// Calls the library.
     pub run: fn(&Case, &mut Lent) -> u64,
+}
+
+/// For calls whose words are all that is owed.
+pub fn no_more(_: &Case, _: Table) -> Result<(), String> {
+    Ok(())
 }
 
 /// The value of an accepted call, and the words it leaves at the beginning of the buffers it writes.

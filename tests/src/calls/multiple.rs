@@ -1,6 +1,6 @@
 //! A residue times the table.
 
-use super::{Answer, Call, Number};
+use super::{no_more, Answer, Call, Number};
 use crate::case::{Case, Holds};
 use crate::lent::Lent;
 use crate::refusals::{factor, lengths, orders, prime, size, words};
@@ -27,6 +27,7 @@ pub const CALL: Call = Call {
     checks: &[prime, size, orders, lengths, factor, words],
     outcomes: &[(0, 0), (1, 0), (2, 0), (3, 1), (4, 1), (4, 5), (5, 0), (5, 1)],
     answer,
+    meaning: no_more,
     run,
 };
 

@@ -1,0 +1,170 @@
+//! The C boundary, as include/residues.h declares it. All that is unsafe stands here.
+#![allow(unsafe_code, clippy::missing_safety_doc, clippy::too_many_arguments)]
+
+use crate::checks::Refusal;
+use core::slice::{from_raw_parts, from_raw_parts_mut};
+
+/// number + 256 buffer + 65536 row + 4294967296 value
+fn packed(answer: Result<u32, Refusal>) -> u64 {
+    match answer {
+        Ok(value) => (value as u64) << 32,
+        Err(refusal) => refusal.number as u64 + ((refusal.buffer as u64) << 8) + ((refusal.row as u64) << 16),
+    }
+}
+
+fn done(answer: Result<(), Refusal>) -> u64 {
+    packed(answer.map(|()| 0))
+}
+
+unsafe fn read<'t>(words: *const u32, count: usize) -> &'t [u32] {
+    if count == 0 {
+        &[]
+    } else {
+        from_raw_parts(words, count)
+    }
+}
+
+unsafe fn written<'t>(words: *mut u32, count: usize) -> &'t mut [u32] {
+    if count == 0 {
+        &mut []
+    } else {
+        from_raw_parts_mut(words, count)
+    }
+}
+
+#[no_mangle]
+pub unsafe extern "C" fn residues_entry(
+    p: u32,
+    n: u32,
+    r: u32,
+    s: u32,
+    i: u32,
+    j: u32,
+    table: *const u32,
+    table_len: usize,
+) -> u64 {
+    packed(crate::entry(p, n, r, s, i, j, read(table, table_len)))
+}
+
+#[no_mangle]
+pub unsafe extern "C" fn residues_matrix(
+    p: u32,
+    n: u32,
+    r: u32,
+    s: u32,
+    table: *const u32,
+    table_len: usize,
+    result: *mut u32,
+    result_len: usize,
+) -> u64 {
+    done(crate::matrix(p, n, r, s, read(table, table_len), written(result, result_len)))
+}
+
+#[no_mangle]
+pub unsafe extern "C" fn residues_apply(
+    p: u32,
+    n: u32,
+    r: u32,
+    s: u32,
+    table: *const u32,
+    table_len: usize,
+    column: *const u32,
+    column_len: usize,
+    result: *mut u32,
+    result_len: usize,
+) -> u64 {
+    done(crate::apply(p, n, r, s, read(table, table_len), read(column, column_len), written(result, result_len)))
+}
+
+#[no_mangle]
+pub unsafe extern "C" fn residues_apply_transpose(
+    p: u32,
+    n: u32,
+    r: u32,
+    s: u32,
+    table: *const u32,
+    table_len: usize,
+    column: *const u32,
+    column_len: usize,
+    result: *mut u32,
+    result_len: usize,
+) -> u64 {
+    done(crate::apply_transpose(p, n, r, s, read(table, table_len), read(column, column_len), written(result, result_len)))
+}
+
+#[no_mangle]
+pub unsafe extern "C" fn residues_transpose(
+    p: u32,
+    n: u32,
+    r: u32,
+    s: u32,
+    table: *const u32,
+    table_len: usize,
+    result: *mut u32,
+    result_len: usize,
+) -> u64 {
+    done(crate::transpose(p, n, r, s, read(table, table_len), written(result, result_len)))
+}
+
+#[no_mangle]
+pub unsafe extern "C" fn residues_multiple(
+    p: u32,
+    n: u32,
+    r: u32,
+    s: u32,
+    c: u32,
+    table: *const u32,
+    table_len: usize,
+    result: *mut u32,
+    result_len: usize,
+) -> u64 {
+    done(crate::multiple(p, n, r, s, c, read(table, table_len), written(result, result_len)))
+}
+
+#[no_mangle]
+pub unsafe extern "C" fn residues_sum(
+    p: u32,
+    n: u32,
+    r1: u32,
+    s1: u32,
+    r2: u32,
+    s2: u32,
+    first: *const u32,
+    first_len: usize,
+    second: *const u32,
+    second_len: usize,
+    result: *mut u32,
+    result_len: usize,
+) -> u64 {
+    let (first, second, result) = (read(first, first_len), read(second, second_len), written(result, result_len));
+    done(crate::sum(p, n, r1, s1, r2, s2, first, second, result))
+}
+
+#[no_mangle]
+pub unsafe extern "C" fn residues_product(
+    p: u32,
+    n: u32,
+    r1: u32,
+    s1: u32,
+    r2: u32,
+    s2: u32,
+    first: *const u32,
+    first_len: usize,
+    second: *const u32,
+    second_len: usize,
+    result: *mut u32,
+    result_len: usize,
+) -> u64 {
+    let (first, second, result) = (read(first, first_len), read(second, second_len), written(result, result_len));
+    done(crate::product(p, n, r1, s1, r2, s2, first, second, result))
+}
+
+extern "C" {
+    fn abort() -> !;
+}
+
+/// No call panics; a program without the standard library must still say what would happen.
+#[panic_handler]
+fn panic(_: &core::panic::PanicInfo) -> ! {
+    unsafe { abort() }
+}
