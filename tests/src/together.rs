@@ -8,12 +8,12 @@ use crate::tally::Tally;
 use crate::trial::{compare, owed, Owed};
 
 const THREADS: usize = 4;
-const TIMES: usize = 500;
+const TIMES: usize = 5_000;
 
 pub fn run(tally: &mut Tally) -> Result<(), String> {
     let mut random = Random::seeded(2);
     for call in CALLS {
-        let drawn = std::iter::repeat_with(|| cases::sound(call, &mut random)).filter(|case| (20..=40).contains(&case.n));
+        let drawn = std::iter::repeat_with(|| cases::sound(call, &mut random)).filter(is_mostly_sweeps);
         let cases: Vec<_> = drawn.take(THREADS).map(|case| (owed(call, &case), case)).collect();
         std::thread::scope(|scope| {
             let threads: Vec<_> = cases.iter().map(|(owed, case)| scope.spawn(|| repeat(call, case, owed))).collect();
@@ -22,6 +22,11 @@ pub fn run(tally: &mut Tally) -> Result<(), String> {
         cases.iter().for_each(|(owed, case)| tally.record(call, case, owed.reply));
     }
     Ok(())
+}
+
+/// The test of a small prime takes no time beside the sweeps, in which threads might meet.
+fn is_mostly_sweeps(case: &Case) -> bool {
+    (20..=40).contains(&case.n) && case.p < 1_000 && case.orders.iter().all(|&(r, s)| r > 0 && s > 0)
 }
 
 fn repeat(call: &Call, case: &Case, owed: &Owed) -> Result<(), String> {
