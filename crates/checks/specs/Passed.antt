@@ -13,7 +13,7 @@ use Rattle.table.specs.Limits.{standard}
 use Rattle.table.specs.Words.{Table, width, firstBad, firstBadPlace}
 use Rattle.table.specs.Replies.{Accepted, NoFault, accept, badPrime, badSize, badOrder, badPlace}
 use Rattle.table.specs.Results.{entryW}
-use Rattle.table.specs.Calls.{tableLength, entryChecks, entryReply, matrixChecks, matrixReply, applyChecks, applyReply, transposeChecks, transposeReply, multipleChecks, multipleReply, pairChecks, sumReply, productReply}
+use Rattle.table.specs.Calls.{tableLength, entryChecks, entryReply, matrixChecks, matrixReply, applyChecks, applyReply, transposeChecks, transposeReply, multipleChecks, multipleReply, pairChecks, sumReply, productReply, solveEarlier, inverseEarlier}
 use Rattle.table.specs.CallLaws.{passed, no-row, both-hold, good-prime}
 
 -- The prime, the size and the orders are within the limits, the table is long enough and no used word of it is P or more.
@@ -57,15 +57,22 @@ module _ (P N : ℕ) (A : Table) where
   apply-passed x d ok = let c = passed (applyChecks P N A x d) (accept 0) refl ok in
       (good P N A (c 0) (c 1) (c 2) (ltb-false _ _ (c 3)) (no-row _ (c 6)), ltb-false _ _ (c 4), ltb-false _ _ (c 5), no-row _ (c 7))
 
+  -- the checks of transpose, which are those of inverse before the pivots
+  pub inverse-passed : (d : List ℕ) → NoFault (inverseEarlier P N A d) → Good P N A × (tableLength N A ≤ length d)
+  inverse-passed d c = (good P N A (c 0) (c 1) (c 2) (ltb-false _ _ (c 3)) (no-row _ (c 5)), ltb-false _ _ (c 4))
+
   pub transpose-passed : (d : List ℕ) → Accepted (transposeReply P N A d) → Good P N A × (tableLength N A ≤ length d)
   unfolding transposeReply
-  transpose-passed d ok = let c = passed (transposeChecks P N A d) (accept 0) refl ok in
-      (good P N A (c 0) (c 1) (c 2) (ltb-false _ _ (c 3)) (no-row _ (c 5)), ltb-false _ _ (c 4))
+  transpose-passed d ok = inverse-passed d (passed (transposeChecks P N A d) (accept 0) refl ok)
 
   pub multiple-passed : (k : ℕ) (d : List ℕ) → Accepted (multipleReply P N A k d) → Good P N A × (tableLength N A ≤ length d) × (k < P)
   unfolding multipleReply
   multiple-passed k d ok = let c = passed (multipleChecks P N A k d) (accept 0) refl ok in
       (good P N A (c 0) (c 1) (c 2) (ltb-false _ _ (c 3)) (no-row _ (c 6)), ltb-false _ _ (c 4), leb-false _ _ (c 5))
+
+  -- the checks of solve before the pivots
+  pub solve-passed : (x v d : List ℕ) → NoFault (solveEarlier P N A x v d) → Good P N A × (1 ≤ N) × (N ≤ length x) × (N * A .upper ≤ length v) × (N ≤ length d) × (firstBadPlace P N x ≡ 0)
+  solve-passed x v d c = (good P N A (c 0) (c 1) (c 2) (ltb-false _ _ (c 3)) (no-row _ (c 7)), leb-true 1 N (both-hold (leb 1 N) (leb N (standard .size)) (c 1) .0), ltb-false _ _ (c 4), ltb-false _ _ (c 5), ltb-false _ _ (c 6), no-row _ (c 8))
 
 -- two tables are good, their orders added are within the limits and the result has room
 pub record GoodPair (P N : ℕ) (A B : Table) (d : List ℕ) : Type 0 where

@@ -31,19 +31,19 @@ last q = q
 
 -- y is the answer of a call's first checks: it refuses, whatever comes after them; or they pass, and the others decide
 module _ (cs : List Check) (y : Reply) (e : y ≡ answer cs (accept 0)) where
-  first-stop : y .number ≢ 0 → (ds : List Check) (v : Reply) → y ≡ answer (cs ++ ds) v
+  pub first-stop : y .number ≢ 0 → (ds : List Check) (v : Reply) → y ≡ answer (cs ++ ds) v
   first-stop n ds v =
       let z = refused-by cs (accept 0) refl (λ q. n (ap (λ (x : Reply). x .number) e ∙ q)) in
       e ∙ given cs (accept 0) (z .0) (z .1) ∙ sym (answer-append cs ds v ∙ given cs (answer ds v) (z .0) (z .1))
 
   module _ (r : refusing cs ≡ true) (ok : y .number ≡ 0) where
-    first-clear : NoFault cs
+    pub first-clear : NoFault cs
     first-clear = passed cs (accept 0) r (ap (λ (x : Reply). x .number) (sym e) ∙ ok)
 
-    first-accept : y ≡ accept 0
+    pub first-accept : y ≡ accept 0
     first-accept = e ∙ open-checks cs (accept 0) first-clear
 
-    first-pass : (ds : List Check) (v : Reply) {w : Reply} → w ≡ answer ds v → w ≡ answer (cs ++ ds) v
+    pub first-pass : (ds : List Check) (v : Reply) {w : Reply} → w ≡ answer ds v → w ≡ answer (cs ++ ds) v
     first-pass ds v q = q ∙ sym (answer-append cs ds v ∙ open-checks cs (answer ds v) first-clear)
 
 -- y is the answer of the first three checks

@@ -7,7 +7,7 @@ ghost use Prim.Native.Nat.{ℕ};
 ghost use lib.ListN.{length};
 ghost use Rattle.table.specs.Words.{table as tab};
 ghost use Rattle.table.specs.Replies.{reply, accept, answer, badPlace};
-ghost use Rattle.table.specs.Calls.{entryChecks, matrixChecks, applyChecks, transposeChecks, multipleChecks, pairChecks};
+ghost use Rattle.table.specs.Calls.{entryChecks, matrixChecks, applyChecks, transposeChecks, multipleChecks, pairChecks, solveEarlier};
 ghost use Rattle.refusals.specs.Orders.{orderChecks};
 
 // Whether i or j is outside 1 to n.
@@ -199,6 +199,48 @@ pub fn check_pair(
     let row2 = checks::first_bad_row(p, size, r2 as usize, s2 as usize, t2);
     if 0 < row2 {
         return checks::refuse(5, 2, row2 as u32);
+    }
+    y
+}
+
+// ---- Solving: the checks before the pivots. `work` is the length of the work buffer.
+
+pub fn check_solve(
+    p: u32,
+    n: u32,
+    r: u32,
+    s: u32,
+    t: &[u32],
+    x: &[u32],
+    work: usize,
+    room: usize,
+) -> Reply
+    ensures { λ y. ⌜ ((v d : List ℕ) → length v ≡ work → length d ≡ room → reply (y .number) (y .buffer) (y .row) (y .value) ≡ answer (solveEarlier p n (tab r s (now (t .entry))) (now (x .entry)) v d) (accept 0)) ⌝ }
+{
+    let y = checks::numbers(p, n, r, s);
+    if y.number != 0 {
+        return y;
+    }
+    let rows = n as usize;
+    if t.len() < rows * checks::row_width(r as usize, s as usize) {
+        return checks::refuse(4, 1, 0);
+    }
+    if x.len() < rows {
+        return checks::refuse(4, 3, 0);
+    }
+    if work < rows * (s as usize) {
+        return checks::refuse(4, 4, 0);
+    }
+    if room < rows {
+        return checks::refuse(4, 5, 0);
+    }
+    let row = checks::first_bad_row(p, rows, r as usize, s as usize, t);
+    if 0 < row {
+        return checks::refuse(5, 1, row as u32);
+    }
+    let bad = checks::first_bad_place(p, rows, x);
+    if 0 < bad {
+        return checks::refuse(5, 3, bad as u32);
     }
     y
 }

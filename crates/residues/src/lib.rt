@@ -2,7 +2,7 @@
 ghost use mathlib.Core.Path.{_≡_};
 ghost use Rattle.table.specs.Words.{table as tab};
 ghost use Rattle.table.specs.Replies.{packed};
-ghost use Rattle.table.specs.Calls.{entryReply, matrixReply, matrixAfter, applyReply, applyAfter, applyTransposedAfter, transposeReply, transposeAfter, multipleReply, multipleAfter, sumReply, sumAfter, productReply, productAfter};
+ghost use Rattle.table.specs.Calls.{entryReply, matrixReply, matrixAfter, applyReply, applyAfter, applyTransposedAfter, transposeReply, transposeAfter, multipleReply, multipleAfter, sumReply, sumAfter, productReply, productAfter, solveReply, solveAfter, workAfter, inverseReply, inverseAfter};
 
 #[no_mangle]
 pub extern "C" fn residues_entry(
@@ -131,4 +131,37 @@ pub extern "C" fn residues_product(
     ensures { λ v. ⌜ now (result .exit) ≡ productAfter p n (tab r1 s1 (now (first .entry))) (tab r2 s2 (now (second .entry))) (now (result .entry)) ⌝ }
 {
     checks::pack(joins::product(p, n, r1, s1, r2, s2, first, second, result))
+}
+
+#[no_mangle]
+pub extern "C" fn residues_solve(
+    p: u32,
+    n: u32,
+    r: u32,
+    s: u32,
+    table: &[u32],
+    column: &[u32],
+    work: &mut [u32],
+    result: &mut [u32],
+) -> u64
+    ensures { λ v. ⌜ v ≡ packed (solveReply p n (tab r s (now (table .entry))) (now (column .entry)) (now (work .entry)) (now (result .entry))) ⌝ }
+    ensures { λ v. ⌜ now (work .exit) ≡ workAfter p n (tab r s (now (table .entry))) (now (column .entry)) (now (work .entry)) (now (result .entry)) ⌝ }
+    ensures { λ v. ⌜ now (result .exit) ≡ solveAfter p n (tab r s (now (table .entry))) (now (column .entry)) (now (work .entry)) (now (result .entry)) ⌝ }
+{
+    checks::pack(solutions::solve(p, n, r, s, table, column, work, result))
+}
+
+#[no_mangle]
+pub extern "C" fn residues_inverse(
+    p: u32,
+    n: u32,
+    r: u32,
+    s: u32,
+    table: &[u32],
+    result: &mut [u32],
+) -> u64
+    ensures { λ v. ⌜ v ≡ packed (inverseReply p n (tab r s (now (table .entry))) (now (result .entry))) ⌝ }
+    ensures { λ v. ⌜ now (result .exit) ≡ inverseAfter p n (tab r s (now (table .entry))) (now (result .entry)) ⌝ }
+{
+    checks::pack(solutions::inverse(p, n, r, s, table, result))
 }

@@ -1,0 +1,2 @@
+pub mod PivotCall
+pub mod PivotCallLaws
