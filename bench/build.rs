@@ -1,4 +1,5 @@
-//! Links libresidues.a of the directory that RESIDUES_LIB_DIR names.
+//! Links libresidues.a of the directory that RESIDUES_LIB_DIR names. Where FLINT_CALLS_DIR names that of libflint_calls.a, which
+//! is flint.c compiled, links it and FLINT.
 
 fn main() {
     let directory = std::env::var("RESIDUES_LIB_DIR").expect("RESIDUES_LIB_DIR names the directory of libresidues.a");
@@ -6,4 +7,13 @@ fn main() {
     println!("cargo:rerun-if-changed={directory}/libresidues.a");
     println!("cargo:rustc-link-search=native={directory}");
     println!("cargo:rustc-link-lib=static=residues");
+    println!("cargo:rustc-check-cfg=cfg(flint)");
+    println!("cargo:rerun-if-env-changed=FLINT_CALLS_DIR");
+    if let Ok(directory) = std::env::var("FLINT_CALLS_DIR") {
+        println!("cargo:rerun-if-changed={directory}/libflint_calls.a");
+        println!("cargo:rustc-cfg=flint");
+        println!("cargo:rustc-link-search=native={directory}");
+        println!("cargo:rustc-link-lib=static=flint_calls");
+        println!("cargo:rustc-link-lib=flint");
+    }
 }

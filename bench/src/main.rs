@@ -1,6 +1,8 @@
-//! Times product, sum and apply of the library beside those of the plain program, and prints them as tables.
+//! Times the library's calls beside those of the plain program, and some beside FLINT's, and prints them as tables.
 
 mod calls;
+#[cfg(flint)]
+mod flint;
 mod library;
 mod measure;
 
@@ -27,11 +29,21 @@ fn main() {
     print_times("N 1, the part that does not grow", &lines, 0);
     print_growth("library", &lines, Times::library);
     print_growth("plain", &lines, Times::plain);
+    print_flint();
+}
+
+#[cfg(flint)]
+fn print_flint() {
+    flint::print();
+}
+
+#[cfg(not(flint))]
+fn print_flint() {
+    println!("\nFLINT (libflint-dev) is not installed: its dense calls are left out");
 }
 
 fn line(call: &Call, order: u32) -> Line {
-    let orders = if call.joins { format!("{order}+{order}") } else { order.to_string() };
-    Line { name: format!("{} {orders}", call.name), times: measure(call, order, &SIZES) }
+    Line { name: call.title(order), times: measure(call, order, &SIZES) }
 }
 
 fn print_times(title: &str, lines: &[Line], size: usize) {

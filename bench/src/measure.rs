@@ -57,7 +57,7 @@ fn round(call: &Call, lent: &mut Lent, times: &mut Times) {
     }
 }
 
-fn time(run: fn(&mut Lent) -> bool, lent: &mut Lent) -> f64 {
+pub fn time<T>(run: fn(&mut T) -> bool, lent: &mut T) -> f64 {
     let start = Instant::now();
     let accepted = run(lent);
     let time = start.elapsed();
@@ -67,14 +67,14 @@ fn time(run: fn(&mut Lent) -> bool, lent: &mut Lent) -> f64 {
 
 /// Both programs accept, and leave the same words.
 fn check(call: &Call, lent: &mut Lent) {
-    assert!((call.plain)(lent), "the plain program refuses {}", call.name);
-    let words = std::mem::take(&mut lent.result);
-    lent.result = vec![u32::MAX; words.len()];
-    assert!((call.library)(lent), "the library refuses {}", call.name);
-    assert!(lent.result == words, "the library and the plain program differ in {} at N {}", call.name, lent.n);
+    lent.take_written();
+    assert!((call.plain)(lent), "the plain program refuses {} at N {}", call.name, lent.n);
+    let words = lent.take_written();
+    assert!((call.library)(lent), "the library refuses {} at N {}", call.name, lent.n);
+    assert!(lent.take_written() == words, "the library and the plain program differ in {} at N {}", call.name, lent.n);
 }
 
-fn median(values: impl Iterator<Item = f64>) -> f64 {
+pub fn median(values: impl Iterator<Item = f64>) -> f64 {
     let mut values: Vec<f64> = values.collect();
     values.sort_by(f64::total_cmp);
     values[values.len() / 2]

@@ -159,6 +159,39 @@ pub unsafe extern "C" fn residues_product(
     done(crate::product(p, n, r1, s1, r2, s2, first, second, result))
 }
 
+#[no_mangle]
+pub unsafe extern "C" fn residues_solve(
+    p: u32,
+    n: u32,
+    r: u32,
+    s: u32,
+    table: *const u32,
+    table_len: usize,
+    column: *const u32,
+    column_len: usize,
+    work: *mut u32,
+    work_len: usize,
+    result: *mut u32,
+    result_len: usize,
+) -> u64 {
+    let (work, result) = (written(work, work_len), written(result, result_len));
+    done(crate::solve(p, n, r, s, read(table, table_len), read(column, column_len), work, result))
+}
+
+#[no_mangle]
+pub unsafe extern "C" fn residues_inverse(
+    p: u32,
+    n: u32,
+    r: u32,
+    s: u32,
+    table: *const u32,
+    table_len: usize,
+    result: *mut u32,
+    result_len: usize,
+) -> u64 {
+    done(crate::inverse(p, n, r, s, read(table, table_len), written(result, result_len)))
+}
+
 extern "C" {
     fn abort() -> !;
 }
