@@ -92,6 +92,18 @@ uint64_t residues_product(uint32_t p, uint32_t n, uint32_t r1, uint32_t s1, uint
                           const uint32_t *first, size_t first_len, const uint32_t *second, size_t second_len,
                           uint32_t *result, size_t result_len);
 
+/* The column that the table sends to the given column, n words, to the result. Reads the table and the column. Work lends n * s
+ * words, so it may be NULL and empty where s is 0; it is not read, and holds v of rows 1 to n - 1 afterwards, then s zeros.
+ * Refuses 1, 2, 3, 4, 5, 7: 7 where the leading k by k corner is singular for some k, beside it 1 and the least such k. */
+uint64_t residues_solve(uint32_t p, uint32_t n, uint32_t r, uint32_t s,
+                        const uint32_t *table, size_t table_len, const uint32_t *column, size_t column_len,
+                        uint32_t *work, size_t work_len, uint32_t *result, size_t result_len);
+
+/* The table of the inverse matrix, of the same orders, to the result: as many words as the table has. Reads the table.
+ * Refuses 1, 2, 3, 4, 5, 7, and 7 as above: also some regular matrices, and some tables that this call has written. */
+uint64_t residues_inverse(uint32_t p, uint32_t n, uint32_t r, uint32_t s,
+                          const uint32_t *table, size_t table_len, uint32_t *result, size_t result_len);
+
 #ifdef __cplusplus
 }
 #endif

@@ -11,11 +11,12 @@
 #include "residues.h"
 
 #define SURPLUS 0xdeadbeefu
-#define BUFFERS 4
+#define BUFFERS 5
 
 /* The buffers of a case in their order, and their numbers in a reply. */
-enum { TABLE, SECOND, COLUMN, RESULT };
-static const uint32_t number_of[BUFFERS] = {RESIDUES_TABLE, RESIDUES_SECOND_TABLE, RESIDUES_COLUMN, RESIDUES_RESULT};
+enum { TABLE, SECOND, COLUMN, WORK, RESULT };
+static const uint32_t number_of[BUFFERS] = {RESIDUES_TABLE, RESIDUES_SECOND_TABLE, RESIDUES_COLUMN, RESIDUES_WORK,
+                                            RESIDUES_RESULT};
 
 /* Words between two pages that may not be touched. */
 typedef struct {
@@ -35,7 +36,7 @@ typedef uint64_t caller(const numbers *x, const lent *b);
 typedef struct {
     const char *name;
     caller *run;
-    int uses_second, uses_column, uses_result;
+    int uses_second, uses_column, uses_work, uses_result;
 } call;
 
 static char doing[300];
@@ -87,22 +88,40 @@ static uint64_t run_product(const numbers *x, const lent *b)
                             b[SECOND].count, b[RESULT].words, b[RESULT].count);
 }
 
-enum { ENTRY, MATRIX, APPLY, APPLY_TRANSPOSE, TRANSPOSE, MULTIPLE, SUM, PRODUCT, CALLS };
+static uint64_t run_solve(const numbers *x, const lent *b)
+{
+    return residues_solve(x->p, x->n, x->r, x->s, b[TABLE].words, b[TABLE].count, b[COLUMN].words, b[COLUMN].count,
+                          b[WORK].words, b[WORK].count, b[RESULT].words, b[RESULT].count);
+}
+
+static uint64_t run_inverse(const numbers *x, const lent *b)
+{
+    return residues_inverse(x->p, x->n, x->r, x->s, b[TABLE].words, b[TABLE].count, b[RESULT].words, b[RESULT].count);
+}
+
+enum { ENTRY, MATRIX, APPLY, APPLY_TRANSPOSE, SOLVE, TRANSPOSE, MULTIPLE, INVERSE, SUM, PRODUCT, CALLS };
 static const call calls[CALLS] = {
-    {"residues_entry", run_entry, 0, 0, 0},
-    {"residues_matrix", run_matrix, 0, 0, 1},
-    {"residues_apply", run_apply, 0, 1, 1},
-    {"residues_apply_transpose", run_apply_transpose, 0, 1, 1},
-    {"residues_transpose", run_transpose, 0, 0, 1},
-    {"residues_multiple", run_multiple, 0, 0, 1},
-    {"residues_sum", run_sum, 1, 0, 1},
-    {"residues_product", run_product, 1, 0, 1},
+    {"residues_entry", run_entry, 0, 0, 0, 0},
+    {"residues_matrix", run_matrix, 0, 0, 0, 1},
+    {"residues_apply", run_apply, 0, 1, 0, 1},
+    {"residues_apply_transpose", run_apply_transpose, 0, 1, 0, 1},
+    {"residues_solve", run_solve, 0, 1, 1, 1},
+    {"residues_transpose", run_transpose, 0, 0, 0, 1},
+    {"residues_multiple", run_multiple, 0, 0, 0, 1},
+    {"residues_inverse", run_inverse, 0, 0, 0, 1},
+    {"residues_sum", run_sum, 1, 0, 0, 1},
+    {"residues_product", run_product, 1, 0, 0, 1},
 };
 
 static int uses(const call *f, int buffer)
 {
-    const int used[BUFFERS] = {1, f->uses_second, f->uses_column, f->uses_result};
+    const int used[BUFFERS] = {1, f->uses_second, f->uses_column, f->uses_work, f->uses_result};
     return used[buffer];
+}
+
+static int is_written(int buffer)
+{
+    return buffer == WORK || buffer == RESULT;
 }
 
 /* ---- failing ---- */
@@ -162,7 +181,7 @@ static void give_back(lent *b)
 
 /* ---- one case ---- */
 
-/* What is handed in and owed: the words that are needed, and the words owed in the result where the call accepts. */
+/* What is handed in and owed: the words that are needed, and the words owed in work and result where the call accepts. */
 typedef struct {
     numbers x;
     const uint32_t *words[BUFFERS];
@@ -170,16 +189,16 @@ typedef struct {
     uint32_t value;
 } problem;
 
-/* The words before the call: those of the problem, then surplus; a result is all surplus. */
+/* The words before the call: those of the problem, then surplus; what is written is all surplus. */
 static uint32_t word_before(const problem *q, int buffer, size_t k)
 {
-    return buffer != RESULT && k < q->needed[buffer] ? q->words[buffer][k] : SURPLUS;
+    return !is_written(buffer) && k < q->needed[buffer] ? q->words[buffer][k] : SURPLUS;
 }
 
-/* The words after an accepted call: the result holds what is owed. */
+/* The words after an accepted call: work and result hold what is owed. */
 static uint32_t word_after(const problem *q, int buffer, size_t k)
 {
-    return buffer == RESULT && k < q->needed[RESULT] ? q->words[RESULT][k] : word_before(q, buffer, k);
+    return is_written(buffer) && k < q->needed[buffer] ? q->words[buffer][k] : word_before(q, buffer, k);
 }
 
 static void check_words(const problem *q, const lent *b, int buffer, int accepted)
@@ -201,17 +220,17 @@ static lent prepare(const problem *q, int buffer, size_t count, int at_end)
     size_t k;
     for (k = 0; k < count; k++)
         b.words[k] = word_before(q, buffer, k);
-    if (buffer != RESULT)
+    if (!is_written(buffer))
         only_read(&b);
     return b;
 }
 
 static void note(const call *f, const numbers *x, const lent *b, int at_end)
 {
-    snprintf(doing, sizeof doing, "%s, p %u n %u r %u s %u i %u j %u c %u r2 %u s2 %u, counts %lu %lu %lu %lu, at the %s", f->name,
-             x->p, x->n, x->r, x->s, x->i, x->j, x->c, x->r2, x->s2, (unsigned long)b[TABLE].count,
-             (unsigned long)b[SECOND].count, (unsigned long)b[COLUMN].count, (unsigned long)b[RESULT].count,
-             at_end ? "end" : "beginning");
+    snprintf(doing, sizeof doing, "%s, p %u n %u r %u s %u i %u j %u c %u r2 %u s2 %u, counts %lu %lu %lu %lu %lu, at the %s",
+             f->name, x->p, x->n, x->r, x->s, x->i, x->j, x->c, x->r2, x->s2, (unsigned long)b[TABLE].count,
+             (unsigned long)b[SECOND].count, (unsigned long)b[COLUMN].count, (unsigned long)b[WORK].count,
+             (unsigned long)b[RESULT].count, at_end ? "end" : "beginning");
 }
 
 static void check_reply(uint64_t reply, uint64_t owed)
@@ -262,16 +281,18 @@ static uint64_t owed_for(const call *f, const problem *q, const size_t *counts)
 static void try_all_counts(const call *f, const problem *q)
 {
     int choice, buffer, as_null, at_end;
-    for (choice = 0; choice < 4 * 4 * 4 * 4; choice++) {
+    for (choice = 0; choice < 4 * 4 * 4 * 4 * 4; choice++) {
         size_t counts[BUFFERS];
-        int rest = choice, repeated = 0;
+        int rest = choice, repeated = 0, empty = 0;
         for (buffer = 0; buffer < BUFFERS; buffer++, rest /= 4) {
             const size_t needed = q->needed[buffer];
             const size_t choices[4] = {needed, needed - 1, 0, needed + 3};
-            counts[buffer] = uses(f, buffer) ? choices[rest % 4] : 0;
-            repeated |= !uses(f, buffer) && rest % 4 != 0;
+            const int short_of_none = needed == 0 && rest % 4 == 1;
+            counts[buffer] = uses(f, buffer) && !short_of_none ? choices[rest % 4] : 0;
+            repeated |= (!uses(f, buffer) && rest % 4 != 0) || short_of_none;
+            empty |= uses(f, buffer) && counts[buffer] == 0;
         }
-        for (as_null = 0; as_null < 2 && !repeated; as_null++)
+        for (as_null = 0; as_null < 1 + empty && !repeated; as_null++)
             for (at_end = 0; at_end < 2; at_end++)
                 try_counts(f, q, counts, as_null, at_end, owed_for(f, q, counts));
     }
@@ -282,7 +303,7 @@ static void try_all_counts(const call *f, const problem *q)
 /* A number out of limits, in buffers of the right counts and in empty ones. */
 static void try_refused(const call *f, const problem *q, uint64_t owed)
 {
-    static const size_t empty[BUFFERS] = {0, 0, 0, 0};
+    static const size_t empty[BUFFERS] = {0, 0, 0, 0, 0};
     try_counts(f, q, q->needed, 1, 1, owed);
     try_counts(f, q, empty, 1, 1, owed);
 }
@@ -351,20 +372,61 @@ static void try_whole(const call *f, const problem *q)
     try_words(f, q);
 }
 
-static void try_problem(int which, numbers x, const uint32_t *table, const uint32_t *column, const uint32_t *result,
-                        uint32_t value)
+static problem problem_of(int which, numbers x, const uint32_t *table, const uint32_t *column, const uint32_t *work,
+                          const uint32_t *result, uint32_t value)
 {
     problem q;
     memset(&q, 0, sizeof q);
     q.x = x;
     q.words[TABLE] = table;
     q.words[COLUMN] = column;
+    q.words[WORK] = work;
     q.words[RESULT] = result;
     q.needed[TABLE] = residues_table_words(x.n, x.r, x.s);
     q.needed[COLUMN] = x.n;
+    q.needed[WORK] = (size_t)x.n * x.s;
     q.needed[RESULT] = which == MATRIX ? (size_t)x.n * x.n : which < TRANSPOSE ? x.n : q.needed[TABLE];
     q.value = value;
+    return q;
+}
+
+static void try_problem(int which, numbers x, const uint32_t *table, const uint32_t *column, const uint32_t *result,
+                        uint32_t value)
+{
+    const problem q = problem_of(which, x, table, column, NULL, result, value);
     try_whole(&calls[which], &q);
+}
+
+/* The table with another d in a row, whose pivot is then zero: neither work nor result is written. */
+static void try_singular(const call *f, const problem *q, uint32_t row, uint32_t d)
+{
+    problem wrong = *q;
+    size_t longer[BUFFERS], count = q->needed[TABLE];
+    uint32_t *words = malloc(count * sizeof *words);
+    const uint64_t owed = refusal(RESIDUES_ZERO_PIVOT, RESIDUES_TABLE, row);
+    int buffer, at_end;
+    check(words != NULL, "no memory");
+    memcpy(words, q->words[TABLE], count * sizeof *words);
+    words[count / q->x.n * (row - 1)] = d;
+    wrong.words[TABLE] = words;
+    for (buffer = 0; buffer < BUFFERS; buffer++)
+        longer[buffer] = q->needed[buffer] + 3;
+    for (at_end = 0; at_end < 2; at_end++) {
+        try_counts(f, &wrong, q->needed, 0, at_end, owed);
+        try_counts(f, &wrong, longer, 0, at_end, owed);
+    }
+    try_counts(f, &wrong, q->needed, 1, 1, owed);
+    free(words);
+}
+
+/* Solve or inverse of a table without zero pivots; last_d in the last row would make one. */
+static void try_regular(int which, numbers x, const uint32_t *table, const uint32_t *column, const uint32_t *work,
+                        const uint32_t *result, uint32_t last_d)
+{
+    const problem q = problem_of(which, x, table, column, work, result, 0);
+    try_whole(&calls[which], &q);
+    try_singular(&calls[which], &q, 1, 0);
+    try_singular(&calls[which], &q, x.n, last_d);
 }
 
 /* One buffer, which may not be written, as both tables. */
@@ -373,6 +435,7 @@ static void try_one_buffer_twice(const call *f, const problem *q, int at_end)
     lent b[BUFFERS];
     b[TABLE] = prepare(q, TABLE, q->needed[TABLE], at_end);
     b[COLUMN] = prepare(q, COLUMN, 0, at_end);
+    b[WORK] = prepare(q, WORK, 0, at_end);
     b[RESULT] = prepare(q, RESULT, q->needed[RESULT], at_end);
     b[SECOND] = b[TABLE];
     note(f, &q->x, b, at_end);
@@ -381,6 +444,7 @@ static void try_one_buffer_twice(const call *f, const problem *q, int at_end)
     check_words(q, &b[RESULT], RESULT, 1);
     give_back(&b[TABLE]);
     give_back(&b[COLUMN]);
+    give_back(&b[WORK]);
     give_back(&b[RESULT]);
     passed++;
 }
@@ -420,6 +484,8 @@ static void file_m(void)
     static const uint32_t square[] = {0, 0, 0, 0, 0, 0, 0, 2, 2, 1, 1, 0, 0, 0, 0, 0, 0, /* row 1 */
                                       0, 1, 2, 2, 1, 0, 2, 0, 1, 2, 5, 3, 2, 0, 3, 4, 1, /* row 2 */
                                       4, 3, 1, 0, 0, 0, 0, 0, 0, 0, 0, 0, 0, 0, 0, 6, 4};
+    static const uint32_t work[] = {1, 3, 0};
+    static const uint32_t inverse[] = {3, 0, 0, 2, 1, 0, 0, 2, 2, 5, 4, 3, 0, 6, 2, 1, 0, 0, 0, 0, 6};
     const numbers x = {7, 3, 1, 1, 3, 1, 3, 1, 1};
     try_problem(ENTRY, x, table, column, NULL, 5);
     try_problem(MATRIX, x, table, column, matrix, 0);
@@ -427,6 +493,8 @@ static void file_m(void)
     try_problem(APPLY_TRANSPOSE, x, table, column, applied_transpose, 0);
     try_problem(TRANSPOSE, x, table, column, transposed, 0);
     try_problem(MULTIPLE, x, table, column, tripled, 0);
+    try_regular(SOLVE, x, table, applied, work, column, 1);
+    try_regular(INVERSE, x, table, NULL, NULL, inverse, 1);
     try_pair(SUM, x, table, table, twice);
     try_pair(PRODUCT, x, table, table, square);
 }
@@ -437,7 +505,7 @@ static void file_m(void)
 
 static uint32_t *room(size_t count)
 {
-    uint32_t *words = calloc(count, sizeof *words);
+    uint32_t *words = calloc(count + 1, sizeof *words);
     check(words != NULL, "no memory");
     return words;
 }
@@ -479,7 +547,105 @@ static uint32_t entry_at(numbers x, uint32_t i, uint32_t j)
     return i == j ? 5 : i > j ? 2 * x.r : 3 * x.s;
 }
 
-/* d 5, p 2, g 3, applied to ones. */
+static uint32_t times(uint32_t x, uint32_t y)
+{
+    return (uint32_t)((uint64_t)x * y % P);
+}
+
+static uint32_t minus(uint32_t x, uint32_t y)
+{
+    return x >= y ? x - y : P - y + x;
+}
+
+/* 1/x: x to the power P - 2. */
+static uint32_t over(uint32_t x)
+{
+    uint32_t power = 1, left;
+    check(x != 0, "a zero pivot in a known table");
+    for (left = P - 2; left > 0; left /= 2, x = times(x, x))
+        power = left % 2 == 0 ? power : times(power, x);
+    return power;
+}
+
+/* What a row of such a table has, d 5, p 2, g 3: the pivot, and the residue of which its v, y and the inverse's p and h are full. */
+typedef struct {
+    uint32_t m, v, y, e, t, u;
+} swept;
+
+/* Every residue of f is the same, and every residue of z. */
+static void sweep(swept *rows, numbers x)
+{
+    uint32_t f = 0, z = 0, k;
+    for (k = 1; k <= x.n; k++) {
+        swept *row = &rows[k - 1];
+        const int last = k == x.n;
+        const uint32_t pf = k == 1 ? 0 : times(2 * x.r, f);
+        row->m = minus(5, times(pf, x.s));
+        row->v = last ? 0 : times(minus(3, pf), over(row->m));
+        row->y = last ? 0 : times(minus(1, times(x.s, f)), over(row->m));
+        f = minus(f, minus(0, times(row->m, times(row->y, row->v))));
+    }
+    for (k = x.n; k >= 1; k--) {
+        swept *row = &rows[k - 1];
+        const uint32_t vz = times(times(row->v, x.s), z), zy = times(z, times(x.r, row->y));
+        row->e = minus(over(row->m), minus(0, times(times(row->v, x.s), zy)));
+        row->t = k == 1 ? 0 : minus(vz, times(2, row->e));
+        row->u = k == 1 ? 0 : minus(zy, row->e);
+        z = minus(minus(minus(z, times(2, row->u)), times(2, row->e)), row->t);
+    }
+}
+
+/* v of the rows but the last, then zeros. */
+static void fill_work(uint32_t *w, numbers x, const swept *rows)
+{
+    uint32_t k;
+    for (k = 1; k <= x.n; k++)
+        w = put(w, x.s, k == x.n ? 0 : rows[k - 1].v);
+}
+
+/* The identity less a block that is full of a residue. */
+static uint32_t *put_less(uint32_t *w, uint32_t order, int used, uint32_t full)
+{
+    uint32_t x, y;
+    for (x = 0; x < order; x++)
+        for (y = 0; y < order; y++)
+            *w++ = used ? minus(x == y, full) : 0;
+    return w;
+}
+
+static void fill_inverse(uint32_t *w, numbers x, const swept *rows)
+{
+    uint32_t k;
+    for (k = 1; k <= x.n; k++) {
+        const swept *row = &rows[k - 1];
+        const int between = k > 1 && k < x.n;
+        w = put(w, 1, row->e);
+        w = put(w, x.r, row->t);
+        w = put_less(w, x.r, between, times(2, row->y));
+        w = put(w, x.r, row->y);
+        w = put(w, x.s, row->v);
+        w = put_less(w, x.s, between, row->v);
+        w = put(w, x.s, row->u);
+    }
+}
+
+/* Solve, for the column that ones are sent to, and inverse. */
+static void known_swept(numbers x, const uint32_t *table, const uint32_t *applied, const uint32_t *ones)
+{
+    uint32_t *work = room((size_t)x.n * x.s), *inverse = room(residues_table_words(x.n, x.r, x.s));
+    swept *rows = calloc(x.n, sizeof *rows);
+    check(rows != NULL, "no memory");
+    sweep(rows, x);
+    fill_work(work, x, rows);
+    fill_inverse(inverse, x, rows);
+    try_regular(SOLVE, x, table, applied, work, ones, minus(5, rows[x.n - 1].m));
+    try_regular(INVERSE, x, table, NULL, NULL, inverse, minus(5, rows[x.n - 1].m));
+    free(work);
+    free(inverse);
+    free(rows);
+}
+
+/* d 5, p 2, g 3, applied to ones, and solved for ones. */
 static void known(uint32_t n, uint32_t r, uint32_t s)
 {
     const numbers x = {P, n, r, s, n, 1, P - 1, 0, 0};
@@ -496,6 +662,7 @@ static void known(uint32_t n, uint32_t r, uint32_t s)
     for (i = 1; i <= n; i++)
         result[i - 1] = 5 + (i - 1) * 2 * r + (n - i) * 3 * s;
     try_problem(APPLY, x, table, column, result, 0);
+    known_swept(x, table, result, column);
     for (i = 1; i <= n; i++)
         result[i - 1] = 5 + (i - 1) * 3 * s + (n - i) * 2 * r;
     try_problem(APPLY_TRANSPOSE, x, table, column, result, 0);
@@ -588,6 +755,9 @@ int main(void)
     known(1, 1, 2);
     known(1, 8, 8);
     known(2, 3, 1);
+    known(3, 2, 0);
+    known(3, 0, 2);
+    known(9, 3, 8);
     known(1024, 1, 1);
     known(1024, 8, 8);
     known_pair(1, 0, 0, 0, 0);

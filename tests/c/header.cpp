@@ -6,11 +6,15 @@ int main()
 {
     const uint32_t diagonal[] = {2, 3};
     const uint64_t reply = residues_entry(5, 2, 0, 0, 2, 2, diagonal, 2);
-    uint32_t sum[2], product[2];
+    uint32_t sum[2], product[2], solution[2], inverse[2];
     const uint64_t added = residues_sum(5, 2, 0, 0, 0, 0, diagonal, 2, diagonal, 2, sum, 2);
     const uint64_t multiplied = residues_product(5, 2, 0, 0, 0, 0, diagonal, 2, diagonal, 2, product, 2);
+    const uint64_t solved = residues_solve(5, 2, 0, 0, diagonal, 2, diagonal, 2, nullptr, 0, solution, 2);
+    const uint64_t inverted = residues_inverse(5, 2, 0, 0, diagonal, 2, inverse, 2);
     const bool entry_is_3 = residues_number(reply) == RESIDUES_OK && residues_value(reply) == 3;
     const bool sum_is_4_1 = residues_number(added) == RESIDUES_OK && sum[0] == 4 && sum[1] == 1;
     const bool product_is_4_4 = residues_number(multiplied) == RESIDUES_OK && product[0] == 4 && product[1] == 4;
-    return entry_is_3 && sum_is_4_1 && product_is_4_4 ? 0 : 1;
+    const bool solution_is_1_1 = residues_number(solved) == RESIDUES_OK && solution[0] == 1 && solution[1] == 1;
+    const bool inverse_is_3_2 = residues_number(inverted) == RESIDUES_OK && inverse[0] == 3 && inverse[1] == 2;
+    return entry_is_3 && sum_is_4_1 && product_is_4_4 && solution_is_1_1 && inverse_is_3_2 ? 0 : 1;
 }

@@ -15,6 +15,8 @@ pub enum Holds {
     Column,
     /// N² words.
     Square,
+    /// N·s words.
+    Work,
 }
 
 /// A lent buffer: its number in the papers, its room, its words.
@@ -40,9 +42,10 @@ impl Buffer {
     }
 }
 
-/// A fault that was planted, in the order of planting: numbers go out of limits last.
+/// A fault that was planted, in the order of planting: pivots are made of sound words, numbers go out of limits last.
 #[derive(Clone, Copy, PartialEq, Eq, PartialOrd, Ord, Debug)]
 pub enum Fault {
+    Pivot,
     Word(u32),
     Short(u32),
     Factor,
@@ -85,7 +88,7 @@ impl Case {
         match holds {
             Holds::Table(which) => Some(self.shape(which)),
             Holds::Joined => Some(self.joined()),
-            Holds::Column | Holds::Square => None,
+            Holds::Column | Holds::Square | Holds::Work => None,
         }
     }
 
@@ -96,6 +99,7 @@ impl Case {
             Holds::Joined => self.joined().table_words(),
             Holds::Column => self.n as usize,
             Holds::Square => self.n as usize * self.n as usize,
+            Holds::Work => self.n as usize * self.shape(0).s,
         }
     }
 

@@ -6,12 +6,16 @@ use crate::faults;
 use crate::layout::Shape;
 use crate::random::Random;
 use crate::refusals::{is_prime, LARGEST_ORDER, LARGEST_PRIME};
+use crate::swept::choose_pivots;
 
 const PRIMES: [u32; 7] = [2, 3, 5, 7, 101, 2_147_483_629, LARGEST_PRIME];
 
-/// A case for a call: sound for half of the seeds, else with one to three faults.
+/// A case for a call: sound for half of the seeds, else with one to three faults. At times pivots are as they come.
 pub fn draw(call: &Call, random: &mut Random) -> Case {
     let mut case = sound(call, random);
+    if call.pivots && random.once_in(5) {
+        case.buffer_mut(1).words = draw_table(case.p, case.shape(0), random);
+    }
     add_surplus(&mut case, random);
     for fault in faults::draw(call, random) {
         faults::plant(&mut case, fault, random);
@@ -24,7 +28,7 @@ pub fn draw(call: &Call, random: &mut Random) -> Case {
     case
 }
 
-/// All numbers within limits, all buffers exact.
+/// All numbers within limits, all buffers exact, no zero pivot where a call would refuse it.
 pub fn sound(call: &Call, random: &mut Random) -> Case {
     let (p, n) = (draw_prime(random), draw_size(random));
     let orders = draw_orders(call.tables, n, random);
@@ -38,6 +42,10 @@ pub fn sound(call: &Call, random: &mut Random) -> Case {
         let mut buffer = Buffer::new(number, holds, vec![]);
         buffer.words = draw_words(&case, &buffer, random);
         case.buffers.push(buffer);
+    }
+    if call.pivots {
+        let (p, shape) = (case.p, case.shape(0));
+        make_regular(p, shape, &mut case.buffer_mut(1).words, random);
     }
     case
 }
@@ -183,6 +191,11 @@ pub fn draw_table(p: u32, shape: Shape, random: &mut Random) -> Vec<u32> {
     let mut words = draw_residues(p, shape.table_words(), random);
     fill_idle(&mut words, p, shape, random);
     words
+}
+
+/// Changes d wherever the pivot is zero.
+pub fn make_regular(p: u32, shape: Shape, words: &mut [u32], random: &mut Random) {
+    choose_pivots(p, shape, words, |_, m| if m == 0 { random.between(1, p - 1) } else { m });
 }
 
 /// Idle words: residues, zeros, the prime itself, or any words.

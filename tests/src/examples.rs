@@ -6,6 +6,7 @@ use crate::refusals::{Reply, LARGEST_PRIME};
 use crate::tally::Tally;
 use crate::trial::{compare, owed};
 
+mod solved;
 mod two;
 
 const ANY: u32 = u32::MAX;
@@ -18,6 +19,11 @@ const ON_ONE_TABLE: [&Call; 6] =
 const M: [u32; 21] = [1, 9, 9, 2, 1, 9, 9, 3, 1, 2, 1, 2, 3, 1, 5, 3, 9, 9, 9, 9, 4];
 const M_MATRIX: [u32; 9] = [1, 1, 5, 2, 3, 1, 5, 3, 5];
 const M_INVERSE: [u32; 21] = [3, 0, 0, 2, 1, 0, 0, 2, 2, 5, 4, 3, 0, 6, 2, 1, 0, 0, 0, 0, 6];
+const M_SQUARE: [[u32; 17]; 3] = [
+    [0, 0, 0, 0, 0, 0, 0, 2, 2, 1, 1, 0, 0, 0, 0, 0, 0],
+    [0, 1, 2, 2, 1, 0, 2, 0, 1, 2, 5, 3, 2, 0, 3, 4, 1],
+    [4, 3, 1, 0, 0, 0, 0, 0, 0, 0, 0, 0, 0, 0, 0, 6, 4],
+];
 
 pub fn run(tally: &mut Tally) -> Result<(), String> {
     let mut examples = Examples { tally };
@@ -33,7 +39,8 @@ pub fn run(tally: &mut Tally) -> Result<(), String> {
     examples.order_of_products()?;
     examples.large_products()?;
     examples.one_table_as_column()?;
-    examples.on_two_tables()
+    examples.on_two_tables()?;
+    examples.of_pivots()
 }
 
 struct Examples<'t> {
@@ -63,15 +70,14 @@ fn m_with(changes: &[(usize, u32)]) -> Vec<u32> {
 }
 
 impl Examples<'_> {
-    /// The library and the dense program both owe this reply and these words at the beginning of the result.
-    fn expect(&mut self, call: &Call, case: Case, reply: [u32; 4], result: &[u32]) -> Result<(), String> {
+    /// The library and the dense program both owe this reply and these words at the beginning of the written buffers.
+    fn expect(&mut self, call: &Call, case: Case, reply: [u32; 4], written: &[(u32, &[u32])]) -> Result<(), String> {
         let [number, buffer, row, value] = reply;
         let reply = Reply { number, buffer, row, value };
         let owed = owed(call, &case);
-        let written = if result.is_empty() { vec![] } else { vec![(5, result.to_vec())] };
-        if owed.reply != reply || owed.written != written {
+        if owed.reply != reply || !owed.written.iter().map(|(number, words)| (*number, &words[..])).eq(written.iter().copied()) {
             return Err(format!(
-                "the dense program owes {} {:?}, not {reply} {result:?}, for {case:?}",
+                "the dense program owes {} {:?}, not {reply} {written:?}, for {case:?}",
                 owed.reply, owed.written
             ));
         }
@@ -81,7 +87,7 @@ impl Examples<'_> {
     }
 
     fn accepts(&mut self, call: &Call, case: Case, result: &[u32]) -> Result<(), String> {
-        self.expect(call, case, [0; 4], result)
+        self.expect(call, case, [0; 4], &[(5, result)])
     }
 
     fn refuses(&mut self, call: &Call, case: Case, number: u32, buffer: u32, row: u32) -> Result<(), String> {

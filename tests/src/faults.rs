@@ -4,6 +4,7 @@ use crate::calls::{Call, Number};
 use crate::case::{Case, Fault, Holds};
 use crate::random::Random;
 use crate::refusals::LARGEST_PRIME;
+use crate::swept::choose_pivots;
 
 /// Units, squares, products of two primes, pseudoprimes, and primes above the limit.
 #[rustfmt::skip]
@@ -28,6 +29,9 @@ pub fn all(call: &Call) -> Vec<Fault> {
     let numbers = || call.buffers.iter().map(|&(number, _)| number);
     faults.extend(numbers().map(Fault::Short));
     faults.extend(numbers().filter(|&number| number <= 3).map(Fault::Word));
+    if call.pivots {
+        faults.push(Fault::Pivot);
+    }
     faults
 }
 
@@ -42,6 +46,7 @@ pub fn draw(call: &Call, random: &mut Random) -> Vec<Fault> {
 
 pub fn plant(case: &mut Case, fault: Fault, random: &mut Random) {
     match fault {
+        Fault::Pivot => plant_pivot(case, random),
         Fault::Prime => case.p = draw_no_prime(random),
         Fault::Size => case.n = random.one_of(&[0, 0, 1_025, 1_025, 1_026, 2_048, 65_536, 65_537, 0x8000_0000, u32::MAX]),
         Fault::Orders(which) => plant_order(&mut case.orders[which], random),
@@ -93,10 +98,11 @@ fn not_below(p: u32, random: &mut Random) -> u32 {
     random.one_of(&[p, p, p.saturating_add(1), u32::MAX, any])
 }
 
-/// Makes a buffer too short: by one word, empty, or anyhow.
+/// Makes a buffer too short: by one word, empty, or anyhow. One that needs no words only loses its surplus.
 fn cut(case: &mut Case, number: u32, random: &mut Random) {
     let needed = case.needed(case.buffer(number).holds);
     let count = match random.below(4) {
+        _ if needed == 0 => 0,
         0 | 1 => needed - 1,
         2 => 0,
         _ => random.below(needed),
@@ -104,14 +110,24 @@ fn cut(case: &mut Case, number: u32, random: &mut Random) {
     case.buffer_mut(number).words.truncate(count);
 }
 
+/// Makes the pivot of a row zero, unless one before it is: of the first row, the last, or any. The rows after it stay.
+fn plant_pivot(case: &mut Case, random: &mut Random) {
+    let (p, shape, row) = (case.p, case.shape(0), draw_row(case.n, random) as usize);
+    choose_pivots(p, shape, &mut case.buffer_mut(1).words, |k, m| if k == row { 0 } else { m });
+}
+
+fn draw_row(n: u32, random: &mut Random) -> u32 {
+    match random.below(3) {
+        0 => 1,
+        1 => n,
+        _ => random.between(1, n),
+    }
+}
+
 /// Plants one to three words that are no residues in used places: of the first row, the last, or any.
 fn plant_words(case: &mut Case, number: u32, random: &mut Random) {
     for _ in 0..random.one_of(&[1, 1, 2, 3]) {
-        let row = match random.below(3) {
-            0 => 1,
-            1 => case.n,
-            _ => random.between(1, case.n),
-        };
+        let row = draw_row(case.n, random);
         let place = used_place(case, number, row as usize, random);
         case.buffer_mut(number).words[place] = not_below(case.p, random);
     }

@@ -1,7 +1,7 @@
 //! Calls one after another: each takes the tables that the calls before it left. What they come to is compared as matrices.
 
 use crate::block::sum_of_two;
-use crate::calls::{apply, multiple, product, sum, transpose, Call};
+use crate::calls::{apply, inverse, multiple, product, solve, sum, transpose, Answer, Call};
 use crate::case::{Buffer, Case, Holds};
 use crate::cases;
 use crate::dense::{Matrix, Table, LITERAL_SIZE};
@@ -9,7 +9,11 @@ use crate::layout::Shape;
 use crate::random::Random;
 use crate::refusals::{LARGEST_ORDER, LARGEST_PRIME};
 use crate::tally::Tally;
-use crate::trial::{ended, only_accepted};
+use crate::trial::{compare, ended, only_accepted};
+
+mod inverses;
+mod singular;
+mod small;
 
 /// A law: its name, how many times it is tried, and a trial.
 pub struct Law {
@@ -18,7 +22,7 @@ pub struct Law {
     run: fn(&mut Laws) -> Result<(), String>,
 }
 
-pub const LAWS: [Law; 7] = [
+pub const LAWS: [Law; 19] = [
     Law { name: "groupings", times: 180, run: Laws::groupings },
     Law { name: "product_by_sum", times: 200, run: Laws::product_by_sum },
     Law { name: "transposed_product", times: 200, run: Laws::transposed_product },
@@ -26,6 +30,18 @@ pub const LAWS: [Law; 7] = [
     Law { name: "identity", times: 200, run: Laws::identity },
     Law { name: "apply_twice", times: 200, run: Laws::apply_twice },
     Law { name: "apply_twice_large", times: 24, run: Laws::apply_twice_large },
+    Law { name: "solve_and_apply", times: 300, run: Laws::solve_and_apply },
+    Law { name: "solve_and_apply_large", times: 24, run: Laws::solve_and_apply_large },
+    Law { name: "large_words", times: 8, run: Laws::large_words },
+    Law { name: "inverse_and_product", times: 200, run: Laws::inverse_and_product },
+    Law { name: "inverse_twice", times: 300, run: Laws::inverse_twice },
+    Law { name: "inverse_of_product", times: 200, run: Laws::inverse_of_product },
+    Law { name: "inverse_transposed", times: 200, run: Laws::inverse_transposed },
+    Law { name: "inverse_of_multiple", times: 200, run: Laws::inverse_of_multiple },
+    Law { name: "singular_rows", times: 64, run: Laws::singular_rows },
+    Law { name: "singular_rows_large", times: 8, run: Laws::singular_rows_large },
+    Law { name: "small_matrices", times: small::PARTS, run: Laws::small_matrices },
+    Law { name: "small_tables", times: small::PARTS, run: Laws::small_tables },
 ];
 
 impl Law {
@@ -170,7 +186,7 @@ impl Laws {
 
     fn sends_alike(&mut self, a: &Factor, b: &Factor) -> Result<(), String> {
         let p = a.p;
-        let x: Vec<u32> = (0..a.shape.n).map(|_| self.random.between(0, p - 1)).collect();
+        let x = self.draw_column(p, a.shape.n);
         let (product, sum) = (self.accepted(&product::CALL, a, b)?, self.accepted(&sum::CALL, a, b)?);
         let (ax, bx) = (self.applied(a, &x)?, self.applied(b, &x)?);
         let added: Vec<u32> = ax.iter().zip(&bx).map(|(&x, &y)| sum_of_two(x, y, p)).collect();
@@ -204,31 +220,48 @@ impl Laws {
         Factor { p, shape, words: cases::draw_table(p, shape, &mut self.random) }
     }
 
+    fn draw_column(&mut self, p: u32, n: usize) -> Vec<u32> {
+        (0..n).map(|_| self.random.between(0, p - 1)).collect()
+    }
+
     fn draw_two(&mut self, largest_size: u32) -> (Factor, Factor) {
         let (p, n) = (cases::draw_prime(&mut self.random), self.between(1, largest_size));
         let (rs, ss) = (self.split(LARGEST_ORDER, 2), self.split(LARGEST_ORDER, 2));
         (self.draw(p, n, rs[0], ss[0]), self.draw(p, n, rs[1], ss[1]))
     }
 
-    /// Runs a case that was made of tables as they are; the result's words where it is accepted.
-    fn call(&mut self, call: &Call, tables: &[&Factor], c: u32, column: &[u32]) -> Result<Option<Vec<u32>>, String> {
+    /// A case that is made of tables as they are.
+    fn case(&mut self, call: &Call, tables: &[&Factor], c: u32, column: &[u32]) -> Case {
         let (p, n) = (tables[0].p, tables[0].shape.n as u32);
         let orders = tables.iter().map(|table| table.orders()).collect();
         let mut case = Case { p, n, orders, place: (1, 1), c, buffers: vec![], faults: vec![] };
         for &(number, holds) in call.buffers {
             let words = match (number, holds) {
-                (5, _) => (0..case.needed(holds)).map(|_| self.random.word()).collect(),
+                (4 | 5, _) => (0..case.needed(holds)).map(|_| self.random.word()).collect(),
                 (_, Holds::Table(which)) => tables[which].words.clone(),
                 _ => column.to_vec(),
             };
             case.buffers.push(Buffer::new(number, holds, words));
         }
-        if call.tables == 1 && n as usize > LITERAL_SIZE {
+        case
+    }
+
+    /// Runs it; the result's words where it is accepted.
+    fn call(&mut self, call: &Call, tables: &[&Factor], c: u32, column: &[u32]) -> Result<Option<Vec<u32>>, String> {
+        let case = self.case(call, tables, c, column);
+        if call.tables == 1 && case.n as usize > LITERAL_SIZE {
             return only_accepted(call, &case).map(Some);
         }
         let (reply, lent) = ended(call, &case)?;
         self.tally.record(call, &case, reply);
         Ok((reply.number == 0).then(|| lent.words(5).to_vec()))
+    }
+
+    /// Runs a case of which the answer is known.
+    fn answers(&mut self, call: &Call, case: &Case, owed: &Answer) -> Result<(), String> {
+        compare(call, case, owed)?;
+        self.tally.record(call, case, owed.reply);
+        Ok(())
     }
 
     /// The sum or product of two tables, where it is accepted.
@@ -255,6 +288,21 @@ impl Laws {
 
     fn applied(&mut self, table: &Factor, column: &[u32]) -> Result<Vec<u32>, String> {
         Ok(self.call(&apply::CALL, &[table], 0, column)?.expect("apply accepts"))
+    }
+
+    /// The column that a table without zero pivots sends to the given one.
+    fn solved(&mut self, table: &Factor, column: &[u32]) -> Result<Vec<u32>, String> {
+        self.call(&solve::CALL, &[table], 0, column)?.ok_or_else(|| "solve refuses a table without zero pivots".into())
+    }
+
+    /// The inverse's table, where it is accepted.
+    fn inverse(&mut self, table: &Factor) -> Result<Option<Factor>, String> {
+        let words = self.call(&inverse::CALL, &[table], 0, &[])?;
+        Ok(words.map(|words| Factor { words, ..*table }))
+    }
+
+    fn inverted(&mut self, table: &Factor) -> Result<Factor, String> {
+        self.inverse(table)?.ok_or_else(|| "inverse refuses a table without zero pivots".into())
     }
 }
 

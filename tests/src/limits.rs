@@ -59,12 +59,14 @@ fn orders(call: &Call, tally: &mut Tally) -> Result<(), String> {
     Ok(())
 }
 
-/// Zero matrices and a zero column, in buffers that are long enough wherever N is at most 2,048 and the orders at most 10.
+/// Zero matrices, or identities where a zero pivot is refused, and a zero column, in buffers that are long enough wherever N is at
+/// most 2,048 and the orders at most 10.
 fn zeros(call: &Call, p: u32, n: u32, orders: &[u32]) -> Case {
     let orders: Vec<(u32, u32)> = orders.chunks(2).map(|pair| (pair[0], pair[1])).collect();
     let rows = n.min(2_048) as usize;
     let capped = |(r, s): (u32, u32)| (r.min(10) as usize, s.min(10) as usize);
-    let table = |(r, s): (usize, usize)| rows * (1 + 2 * r + r * r + 2 * s + s * s);
+    let row = |(r, s): (usize, usize)| 1 + 2 * r + r * r + 2 * s + s * s;
+    let table = |orders: (usize, usize)| rows * row(orders);
     let joined = || orders.iter().map(|&pair| capped(pair)).fold((0, 0), |(r, s), other| (r + other.0, s + other.1));
     let buffer = |&(number, holds): &(u32, Holds)| {
         let count = match holds {
@@ -72,8 +74,13 @@ fn zeros(call: &Call, p: u32, n: u32, orders: &[u32]) -> Case {
             Holds::Joined => table(joined()),
             Holds::Column => rows,
             Holds::Square => rows * rows,
+            Holds::Work => rows * capped(orders[0]).1,
         };
-        Buffer::new(number, holds, vec![if number <= 3 { 0 } else { 9 }; count])
+        let mut words = vec![if number <= 3 { 0 } else { 9 }; count];
+        if call.pivots && number == 1 {
+            words.iter_mut().step_by(row(capped(orders[0]))).for_each(|d| *d = 1);
+        }
+        Buffer::new(number, holds, words)
     };
     let buffers = call.buffers.iter().map(buffer).collect();
     Case { p, n, orders, place: (1, 1), c: 0, buffers, faults: vec![] }

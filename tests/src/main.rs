@@ -1,6 +1,7 @@
 //! Compares every call of the library, accepted and refused, with a dense program.
 //! `residues_tests` runs everything; `residues_tests CALL NUMBER` runs one random case again, `residues_tests LAW NUMBER` one
-//! trial of a law.
+//! trial of a law; without the number, all random cases of the call, or all trials of the law; also `examples`, `limits` and
+//! `together`.
 
 mod block;
 mod calls;
@@ -8,6 +9,7 @@ mod case;
 mod cases;
 mod crash;
 mod dense;
+mod eliminated;
 mod examples;
 mod faults;
 mod joined;
@@ -17,6 +19,7 @@ mod lent;
 mod limits;
 mod random;
 mod refusals;
+mod swept;
 mod tally;
 mod together;
 mod trial;
@@ -39,7 +42,8 @@ fn main() -> ExitCode {
     let mut tally = Tally::default();
     crash::watch();
     let ended = match &arguments[..] {
-        [name, number] => again(name, number, &mut tally),
+        [name, number] => number.parse().map_err(|_| "no such case".into()).and_then(|number| again(name, number, &mut tally)),
+        [name] => all(name, &mut tally),
         _ => everything(&mut tally),
     };
     match ended {
@@ -103,13 +107,26 @@ fn law_trial(law: &Law, number: u64, tally: &mut Tally) -> Result<(), String> {
     law.trial(number, tally)
 }
 
-fn again(name: &str, number: &str, tally: &mut Tally) -> Result<(), String> {
-    let number = number.parse().map_err(|_| "no such case")?;
-    match (CALLS.into_iter().find(|call| call.name == name), LAWS.iter().find(|law| law.name == name)) {
+fn again(name: &str, number: u64, tally: &mut Tally) -> Result<(), String> {
+    match named(name) {
         (Some(call), _) => random_case(call, number, tally),
         (_, Some(law)) => law_trial(law, number, tally),
         _ => Err("no such call or law".into()),
     }
+}
+
+fn all(name: &str, tally: &mut Tally) -> Result<(), String> {
+    let times = named(name).1.map_or(CASES_A_CALL, |law| law.times);
+    match name {
+        "examples" => examples::run(tally),
+        "limits" => limits::run(tally),
+        "together" => together::run(tally),
+        _ => (0..times).try_for_each(|number| again(name, number, tally)),
+    }
+}
+
+fn named(name: &str) -> (Option<&'static Call>, Option<&'static Law>) {
+    (CALLS.into_iter().find(|call| call.name == name), LAWS.iter().find(|law| law.name == name))
 }
 
 /// The case of a call that belongs to a number, always the same.
@@ -132,6 +149,11 @@ fn check_dense_program() {
         let case = cases::sound(&calls::product::CALL, &mut random);
         if case.n <= 30 {
             joined::check_itself(case.pair());
+        }
+        for case in [cases::sound(&calls::solve::CALL, &mut random), cases::draw(&calls::inverse::CALL, &mut random)] {
+            if case.n <= 20 && calls::inverse::CALL.checks.iter().all(|check| check(&case).is_none()) {
+                swept::check_itself(case.table());
+            }
         }
     }
 }

@@ -3,6 +3,7 @@
 use crate::calls::{Call, CALLS};
 use crate::case::{Case, Fault};
 use crate::faults;
+use crate::layout::Kind;
 use crate::refusals::{Reply, LARGEST_PRIME};
 use std::collections::{BTreeMap, BTreeSet};
 
@@ -62,6 +63,26 @@ const ACCEPTED_TWO: [Trait; 18] = [
     ("second surplus not below P", |case| has_high_surplus(case, 2)),
 ];
 
+/// Traits of accepted cases whose pivots matter.
+const ACCEPTED_REGULAR: [Trait; 6] = [
+    ("P is 2, orders above 1, N above 3", |case| case.p == 2 && orders_above_1(case)),
+    ("P is 2,147,483,647, orders above 1, N above 3", |case| case.p == LARGEST_PRIME && orders_above_1(case)),
+    ("r and s are 8, N above 3", |case| case.orders[0] == (8, 8) && case.n > 3),
+    ("a d is 0", |case| (1..=case.n as usize).any(|k| case.table().generator(Kind::D, k).residues[0] == 0)),
+    ("r above s, s above 0, N above 3", |case| case.orders[0].0 > case.orders[0].1 && case.orders[0].1 > 0 && case.n > 3),
+    ("s above r, r above 0, N above 3", |case| case.orders[0].1 > case.orders[0].0 && case.orders[0].0 > 0 && case.n > 3),
+];
+
+/// Traits of accepted cases with a work buffer.
+const ACCEPTED_WORK: [Trait; 2] = [
+    ("no work, as NULL", |case| case.buffer(4).null),
+    ("no work, not NULL", |case| case.buffer(4).words.is_empty() && !case.buffer(4).null),
+];
+
+fn orders_above_1(case: &Case) -> bool {
+    case.n > 3 && case.orders[0].0 > 1 && case.orders[0].1 > 1
+}
+
 /// Whether the lower orders of the two tables are not 0.
 fn lower(case: &Case) -> (bool, bool) {
     (case.orders[0].0 > 0, case.orders[1].0 > 0)
@@ -80,6 +101,10 @@ const REFUSED: [Trait; 3] = [
 
 const BAD_FIRST: &str = "bad word first in row 1";
 const BAD_LAST: &str = "bad word first in row N";
+const ZERO_FIRST: &str = "zero pivot in row 1, N above 1";
+const ZERO_LAST: &str = "zero pivot in row N, N above 1";
+const ZERO_BETWEEN: &str = "zero pivot first in a row between";
+const ZERO_REGULAR: &str = "zero pivot in a regular matrix";
 const SHARED: &str = "a buffer is the first table's memory";
 
 /// Whether a table, the first or the second, has an idle word in row k that is no residue.
@@ -104,6 +129,13 @@ impl Tally {
         }
         if reply.number == 5 && reply.row == case.n && case.n > 1 {
             self.count(call, BAD_LAST);
+        }
+        if reply.number == 7 && case.n > 1 {
+            let row = [(1, ZERO_FIRST), (case.n, ZERO_LAST)].into_iter().find(|&(row, _)| row == reply.row);
+            self.count(call, row.map_or(ZERO_BETWEEN, |(_, name)| name));
+        }
+        if reply.number == 7 && case.n <= 5 && case.table().matrix().rank() == case.n as usize {
+            self.count(call, ZERO_REGULAR);
         }
         if reply.number == 0 && case.buffers.iter().any(|buffer| buffer.shared) {
             self.count(call, SHARED);
@@ -168,6 +200,9 @@ impl Tally {
 fn traits_of(call: &Call) -> Vec<&'static str> {
     let mut names: Vec<&str> = accepted(call).concat().iter().chain(&REFUSED).map(|&(name, _)| name).collect();
     names.extend([BAD_FIRST, BAD_LAST]);
+    if call.pivots {
+        names.extend([ZERO_FIRST, ZERO_LAST, ZERO_BETWEEN, ZERO_REGULAR]);
+    }
     if call.buffers.iter().any(|&(number, _)| (2..=3).contains(&number)) {
         names.push(SHARED);
     }
@@ -175,11 +210,17 @@ fn traits_of(call: &Call) -> Vec<&'static str> {
 }
 
 fn accepted(call: &Call) -> Vec<&'static [Trait]> {
+    let mut lists: Vec<&[Trait]> = vec![&ACCEPTED];
     if call.tables == 2 {
-        vec![&ACCEPTED, &ACCEPTED_TWO]
-    } else {
-        vec![&ACCEPTED]
+        lists.push(&ACCEPTED_TWO);
     }
+    if call.pivots {
+        lists.push(&ACCEPTED_REGULAR);
+    }
+    if call.buffers.iter().any(|&(number, _)| number == 4) {
+        lists.push(&ACCEPTED_WORK);
+    }
+    lists
 }
 
 fn all_pairs(call: &Call) -> Vec<(Fault, Fault)> {

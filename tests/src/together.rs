@@ -1,11 +1,11 @@
 //! Each call from several threads at the same time, on different cases, over and over: calls share nothing.
 
-use crate::calls::{Call, CALLS};
+use crate::calls::{Answer, Call, CALLS};
 use crate::case::Case;
 use crate::cases;
 use crate::random::Random;
 use crate::tally::Tally;
-use crate::trial::{compare, owed, Owed};
+use crate::trial::{compare, owed};
 
 const THREADS: usize = 4;
 const TIMES: usize = 5_000;
@@ -29,7 +29,7 @@ fn is_mostly_sweeps(case: &Case) -> bool {
     (20..=40).contains(&case.n) && case.p < 1_000 && case.orders.iter().all(|&(r, s)| r > 0 && s > 0)
 }
 
-fn repeat(call: &Call, case: &Case, owed: &Owed) -> Result<(), String> {
+fn repeat(call: &Call, case: &Case, owed: &Answer) -> Result<(), String> {
     let mut trials = (0..TIMES).map(|_| compare(call, case, owed));
     trials.try_for_each(|ended| ended.map(|_| ())).map_err(|account| format!("beside other threads, {account}"))
 }

@@ -6,19 +6,12 @@ use crate::dense::Table;
 use crate::lent::Lent;
 use crate::refusals::{orders, size, Reply};
 
-/// What a call owes: its reply, and the words it leaves at the beginning of the buffers it writes.
-pub struct Owed {
-    pub reply: Reply,
-    pub written: Vec<(u32, Vec<u32>)>,
-}
-
 /// The first refusal whose cause holds, with nothing written, else the dense answer.
-pub fn owed(call: &Call, case: &Case) -> Owed {
-    if let Some(reply) = call.checks.iter().find_map(|check| check(case)) {
-        return Owed { reply, written: vec![] };
+pub fn owed(call: &Call, case: &Case) -> Answer {
+    match call.checks.iter().find_map(|check| check(case)) {
+        Some(reply) => Answer::refused(reply),
+        None => (call.answer)(case),
     }
-    let Answer { value, written } = (call.answer)(case);
-    Owed { reply: Reply::accepted(value), written }
 }
 
 /// Runs a case and compares the reply, every word of every buffer, and the meaning of the result.
@@ -44,7 +37,7 @@ pub fn only_accepted(call: &Call, case: &Case) -> Result<Vec<u32>, String> {
 }
 
 /// What is wrong with the table that an accepted call left as its result.
-fn meaning(call: &Call, case: &Case, owed: &Owed, lent: &Lent) -> Result<(), String> {
+fn meaning(call: &Call, case: &Case, owed: &Answer, lent: &Lent) -> Result<(), String> {
     if owed.reply.number != 0 {
         return Ok(());
     }
@@ -56,7 +49,7 @@ fn meaning(call: &Call, case: &Case, owed: &Owed, lent: &Lent) -> Result<(), Str
 }
 
 /// Runs a case and compares the reply and every word of every buffer with what is owed.
-pub fn compare(call: &Call, case: &Case, owed: &Owed) -> Result<Lent, String> {
+pub fn compare(call: &Call, case: &Case, owed: &Answer) -> Result<Lent, String> {
     let mut lent = Lent::new(case);
     let reply = (call.run)(case, &mut lent);
     let differences: Vec<String> = case.buffers.iter().filter_map(|buffer| difference(case, buffer, owed, &lent)).collect();
@@ -73,7 +66,7 @@ pub fn compare(call: &Call, case: &Case, owed: &Owed) -> Result<Lent, String> {
 }
 
 /// The first word of a buffer that is not what it should be.
-fn difference(case: &Case, buffer: &Buffer, owed: &Owed, lent: &Lent) -> Option<String> {
+fn difference(case: &Case, buffer: &Buffer, owed: &Answer, lent: &Lent) -> Option<String> {
     let mut expected = buffer.words.clone();
     for (_, words) in owed.written.iter().filter(|(number, _)| *number == buffer.number) {
         expected[..words.len()].copy_from_slice(words);
@@ -97,6 +90,7 @@ fn owner(case: &Case, buffer: &Buffer, place: usize) -> String {
             format!(" ({kind:?} of row {row})")
         }
         Holds::Column => format!(" (row {})", place + 1),
+        Holds::Work => format!(" (v of row {})", place / case.shape(0).s + 1),
         Holds::Square => format!(" (entry {}, {})", place / case.n as usize + 1, place % case.n as usize + 1),
     }
 }

@@ -23,6 +23,7 @@ extern "C" {
 pub const CALL: Call = Call {
     name: "residues_apply",
     tables: 1,
+    pivots: false,
     number: Number::None,
     buffers: &[(1, Holds::Table(0)), (3, Holds::Column), (5, Holds::Column)],
     checks: &[prime, size, orders, lengths, words],

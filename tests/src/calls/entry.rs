@@ -12,6 +12,7 @@ extern "C" {
 pub const CALL: Call = Call {
     name: "residues_entry",
     tables: 1,
+    pivots: false,
     number: Number::Place,
     buffers: &[(1, Holds::Table(0))],
     checks: &[prime, size, orders, place, lengths, words],

@@ -21,6 +21,7 @@ extern "C" {
 pub const CALL: Call = Call {
     name: "residues_matrix",
     tables: 1,
+    pivots: false,
     number: Number::None,
     buffers: &[(1, Holds::Table(0)), (5, Holds::Square)],
     checks: &[prime, size, orders, lengths, words],

@@ -4,18 +4,20 @@
 use crate::case::{Case, Holds};
 use crate::dense::Table;
 use crate::lent::Lent;
-use crate::refusals::Check;
+use crate::refusals::{Check, Reply};
 
 pub mod apply;
 pub mod apply_transpose;
 pub mod entry;
+pub mod inverse;
 pub mod matrix;
 pub mod multiple;
 pub mod product;
+pub mod solve;
 pub mod sum;
 pub mod transpose;
 
-pub const CALLS: [&Call; 8] = [
+pub const CALLS: [&Call; 10] = [
     &entry::CALL,
     &matrix::CALL,
     &apply::CALL,
@@ -24,6 +26,8 @@ pub const CALLS: [&Call; 8] = [
     &multiple::CALL,
     &sum::CALL,
     &product::CALL,
+    &solve::CALL,
+    &inverse::CALL,
 ];
 
 /// What a call takes beside P, N and the orders.
@@ -41,6 +45,8 @@ pub struct Call {
     pub name: &'static str,
     /// How many tables it is lent.
     pub tables: usize,
+    /// Whether a zero pivot is refused, after every check.
+    pub pivots: bool,
     pub number: Number,
     /// The buffers by ascending number, and what each has room for.
     pub buffers: &'static [(u32, Holds)],
@@ -61,20 +67,25 @@ pub fn no_more(_: &Case, _: Table) -> Result<(), String> {
     Ok(())
 }
 
-/// The value of an accepted call, and the words it leaves at the beginning of the buffers it writes.
+/// What is owed: the reply, and the words that are left at the beginning of the buffers it writes.
 #[derive(Debug)]
 pub struct Answer {
-    pub value: u32,
+    pub reply: Reply,
     pub written: Vec<(u32, Vec<u32>)>,
 }
 
 impl Answer {
     pub fn value(value: u32) -> Answer {
-        Answer { value, written: vec![] }
+        Answer { reply: Reply::accepted(value), written: vec![] }
     }
 
     /// The result, buffer 5.
     pub fn result(words: Vec<u32>) -> Answer {
-        Answer { value: 0, written: vec![(5, words)] }
+        Answer { reply: Reply::accepted(0), written: vec![(5, words)] }
+    }
+
+    /// Nothing is written.
+    pub fn refused(reply: Reply) -> Answer {
+        Answer { reply, written: vec![] }
     }
 }

@@ -22,6 +22,7 @@ extern "C" {
 pub const CALL: Call = Call {
     name: "residues_multiple",
     tables: 1,
+    pivots: false,
     number: Number::Factor,
     buffers: &[(1, Holds::Table(0)), (5, Holds::Table(0))],
     checks: &[prime, size, orders, lengths, factor, words],

@@ -28,6 +28,7 @@ extern "C" {
 pub const CALL: Call = Call {
     name: "residues_sum",
     tables: 2,
+    pivots: false,
     number: Number::None,
     buffers: &[(1, Holds::Table(0)), (2, Holds::Table(1)), (5, Holds::Joined)],
     checks: &[prime, size, orders, order_sums, lengths, words],

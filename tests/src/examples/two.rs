@@ -1,6 +1,6 @@
 //! The examples of sum and product.
 
-use super::{case, m_with, Examples, ANY, M, M_INVERSE, M_MATRIX};
+use super::{case, m_with, Examples, ANY, M, M_INVERSE, M_MATRIX, M_SQUARE};
 use crate::calls::{matrix, product, sum, Call};
 use crate::case::Case;
 use crate::refusals::LARGEST_PRIME;
@@ -17,6 +17,7 @@ impl Examples<'_> {
         self.m_times_m_as_table()?;
         self.m_plus_m()?;
         self.m_plus_its_inverse()?;
+        self.m_plus_d()?;
         self.m_times_its_inverse()?;
         self.order_of_factors()?;
         self.one_side_only()?;
@@ -28,12 +29,7 @@ impl Examples<'_> {
 
     /// Example 4 by the product call: M times M stands for rows 0 5 3, 6 0 4, 1 1 4; also where both are one buffer.
     fn m_times_m_as_table(&mut self) -> Result<(), String> {
-        let square = [
-            [0, 0, 0, 0, 0, 0, 0, 2, 2, 1, 1, 0, 0, 0, 0, 0, 0],
-            [0, 1, 2, 2, 1, 0, 2, 0, 1, 2, 5, 3, 2, 0, 3, 4, 1],
-            [4, 3, 1, 0, 0, 0, 0, 0, 0, 0, 0, 0, 0, 0, 0, 6, 4],
-        ]
-        .concat();
+        let square = M_SQUARE.concat();
         let call = &product::CALL;
         let mut case_of_two = pair_case(call, 7, 3, [1, 1, 1, 1], &M, &M, &[8; 55]);
         self.accepts(call, case_of_two.clone(), &square)?;
@@ -71,6 +67,17 @@ impl Examples<'_> {
         self.accepts(&sum::CALL, pair_case(&sum::CALL, 7, 3, [1, 1, 1, 1], &M, &M_INVERSE, &[8; 51]), &both)?;
         let rows = [4, 0, 5, 6, 5, 5, 1, 0, 0];
         self.accepts(&matrix::CALL, case(&matrix::CALL, 7, 3, (2, 2), &[&both, &[8; 9]]), &rows)
+    }
+
+    /// M plus rows 1 0 0, 1 3 0, 3 6 2, a table without an upper side, stands for rows 2 1 5, 3 6 1, 1 2 0.
+    fn m_plus_d(&mut self) -> Result<(), String> {
+        let d = [1, 9, 9, 2, 3, 4, 5, 6, 2, 1, 9, 9];
+        let both =
+            [[2, 0, 0, 0, 0, 0, 0, 2, 2, 1, 0, 0], [6, 1, 4, 2, 0, 0, 5, 1, 6, 2, 3, 1], [0, 3, 1, 0, 0, 0, 0, 0, 0, 0, 0, 4]]
+                .concat();
+        self.accepts(&sum::CALL, pair_case(&sum::CALL, 7, 3, [1, 1, 1, 0], &M, &d, &[8; 37]), &both)?;
+        let rows = [2, 1, 5, 3, 6, 1, 1, 2, 0];
+        self.accepts(&matrix::CALL, case(&matrix::CALL, 7, 3, (2, 1), &[&both, &[8; 9]]), &rows)
     }
 
     /// M times its inverse stands for the identity, on either side.

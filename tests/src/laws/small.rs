@@ -1,0 +1,109 @@
+//! Every matrix and every table of a few residues, and every column: the answers are found by trying all columns.
+
+use super::{Factor, Laws};
+use crate::calls::{inverse, solve, Answer};
+use crate::dense::{Matrix, Table};
+use crate::layout::{Kind, Shape, KINDS};
+use crate::refusals::Reply;
+use crate::swept::Swept;
+use crate::trial::ended;
+
+/// Into how many trials each law is cut.
+pub const PARTS: u64 = 16;
+
+impl Laws {
+    /// Every matrix modulo 2 and 3 of at most three rows, in tables of orders 2.
+    pub fn small_matrices(&mut self) -> Result<(), String> {
+        for (p, n) in [(2, 1), (2, 2), (2, 3), (3, 1), (3, 2), (3, 3)] {
+            for number in self.part(p, n * n) {
+                self.every_column(&with_entries(p, n, &digits(p, n * n, number)))?;
+            }
+        }
+        Ok(())
+    }
+
+    /// Every table modulo 2 of orders 1 and at most three rows, and modulo 3 of two rows.
+    pub fn small_tables(&mut self) -> Result<(), String> {
+        for (p, n) in [(2, 1), (2, 2), (2, 3), (3, 2)] {
+            let shape = Shape { n, r: 1, s: 1 };
+            let used: Vec<usize> = (1..=n).flat_map(|k| shape.used_places(k)).collect();
+            for number in self.part(p, used.len()) {
+                let mut words = vec![u32::MAX; shape.table_words()];
+                used.iter().zip(digits(p, used.len(), number)).for_each(|(&place, residue)| words[place] = residue);
+                self.every_column(&Factor { p, shape, words })?;
+            }
+        }
+        Ok(())
+    }
+
+    /// The numbers of so many digits that belong to this trial.
+    fn part(&self, p: u32, count: usize) -> impl Iterator<Item = u32> {
+        (self.number as u32..p.pow(count as u32)).step_by(PARTS as usize)
+    }
+
+    fn every_column(&mut self, table: &Factor) -> Result<(), String> {
+        let Factor { p, shape, words } = table;
+        let (matrix, columns) = (table.matrix(), every(*p, shape.n));
+        let sent: Vec<Vec<u32>> = columns.iter().map(|x| matrix.sends(x)).collect();
+        let singular = least_corner_by_trial(&matrix);
+        let swept = Swept::new(Table { p: *p, shape: *shape, words });
+        assert_eq!(swept.as_ref().err(), singular.as_ref(), "the dense program finds another row");
+        let case = self.case(&inverse::CALL, &[table], 0, &[]);
+        let (reply, _) = ended(&inverse::CALL, &case)?;
+        self.tally.record(&inverse::CALL, &case, reply);
+        for column in &columns {
+            let owed = match &swept {
+                Ok(swept) => {
+                    let mut found = (0..columns.len()).filter(|&x| sent[x] == *column);
+                    let only = found.next().expect("a regular matrix sends a column to each");
+                    assert!(found.next().is_none(), "a regular matrix sends two columns to one");
+                    Answer { written: vec![(4, swept.work()), (5, columns[only].clone())], ..Answer::value(0) }
+                }
+                Err(row) => Answer::refused(Reply::zero_pivot(*row)),
+            };
+            let case = self.case(&solve::CALL, &[table], 0, column);
+            self.answers(&solve::CALL, &case, &owed)?;
+        }
+        Ok(())
+    }
+}
+
+/// The least corner that sends a column other than zeros to zeros.
+fn least_corner_by_trial(matrix: &Matrix) -> Option<usize> {
+    let is_zero = |column: &[u32]| column.iter().all(|&x| x == 0);
+    (1..=matrix.n).find(|&k| {
+        let corner = matrix.corner(k);
+        every(matrix.p, k).iter().any(|x| !is_zero(x) && is_zero(&corner.sends(x)))
+    })
+}
+
+fn every(p: u32, count: usize) -> Vec<Vec<u32>> {
+    (0..p.pow(count as u32)).map(|number| digits(p, count, number)).collect()
+}
+
+fn digits(p: u32, count: usize, number: u32) -> Vec<u32> {
+    (0..count as u32).map(|place| number / p.pow(place) % p).collect()
+}
+
+/// A table of orders 2 with these entries, of at most three rows: a and b are the identity, q and g of rows 1 and 2 are 1 0 and
+/// 0 1, so that p of a row begins with its entries left of the diagonal, and h with those above it.
+fn with_entries(p: u32, n: usize, entries: &[u32]) -> Factor {
+    let shape = Shape { n, r: 2, s: 2 };
+    let mut words = vec![u32::MAX; shape.table_words()];
+    for k in 1..=n {
+        let entry = |i: usize, j: usize| if i.max(j) > n { 0 } else { entries[(i - 1) * n + j - 1] };
+        for kind in KINDS.into_iter().filter(|&kind| !shape.is_idle(kind, k)) {
+            let residues = match kind {
+                Kind::D => vec![entry(k, k)],
+                Kind::P => vec![entry(k, 1), entry(k, 2)],
+                Kind::H => vec![entry(1, k), entry(2, k)],
+                Kind::Q | Kind::G => vec![u32::from(k == 1), u32::from(k == 2)],
+                Kind::A | Kind::B => vec![1, 0, 0, 1],
+            };
+            words[shape.places(kind, k)].copy_from_slice(&residues);
+        }
+    }
+    let table = Factor { p, shape, words };
+    assert_eq!(table.matrix().entries, entries);
+    table
+}
