@@ -51,7 +51,7 @@ pub fn entry(p: u32, n: u32, r: u32, s: u32, i: u32, j: u32, table: &[u32]) -> R
 }
 
 // Row i of the matrix: read as a column of the transposed table, up and down from row i.
-fn matrix_row(m: Modulus, n: usize, r: usize, s: usize, t: &[u32], i: usize, out: &mut [u32])
+pub fn matrix_row(m: Modulus, n: usize, r: usize, s: usize, t: &[u32], i: usize, out: &mut [u32])
     requires { ⌜ Fit (m .p) (m .reciprocal) × Good (m .p) n (tab r s (now t)) × (i < n) × (length (now out) ≡ n) ⌝ }
     ensures { λ _. ⌜ now (out .exit) ≡ tabulate n (λ j. val (m .p) (matrixOf (m .p) n (tab r s (now (t .entry))) i j)) ⌝ }
 {

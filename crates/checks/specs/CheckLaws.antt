@@ -114,21 +114,21 @@ shape-full N r s k h a b =
     let l : suc k ≡ N → ⊥ = λ e. b (omega arith) in
     rw (gap-full N r k a c, gap-full N s k a c, gap-full N r (suc k) d l, gap-full N s (suc k) d l)
 
--- The words of row k of N, read from `row`: one block, and a row block by block.
-module _ (P N r s k : ℕ) (row : List ℕ) where
+-- The words of row k of N, word e of them being W e: one block, and a row block by block.
+module _ (P N r s k : ℕ) (W : ℕ → ℕ) where
   abbrev word : Kind → ℕ → ℕ → ℕ
-  word κ i j = getD row (place r s κ i j) 0
+  word κ i j = W (place r s κ i j)
 
   -- n words from `at` on hold a bad one; a used word of a block is bad
   abbrev badFrom : (at n : ℕ) → Bool
-  badFrom at n = some n (λ e. leb P (getD row (at + e) 0))
+  badFrom at n = some n (λ e. leb P (W (at + e)))
 
   abbrev badAt : Kind → Bool
   badAt κ = badBlock P N r s k word κ
 
   block : (κ : Kind) (at n : ℕ) {b : Bool} → b ≡ badFrom at n → at ≡ blocksSize r s (before κ) → n ≡ high (shape N r s k) κ * wide (shape N r s k) κ → b ≡ badAt κ
   block κ at n e q l = e ∙ ap₂ badFrom q l
-      ∙ some-block (high (shape N r s k) κ) (wide (shape N r s k) κ) (wide (full r s) κ) (λ e. leb P (getD row (blocksSize r s (before κ) + e) 0)) (wide-or N r s k κ)
+      ∙ some-block (high (shape N r s k) κ) (wide (shape N r s k) κ) (wide (full r s) κ) (λ e. leb P (W (blocksSize r s (before κ) + e))) (wide-or N r s k κ)
 
   by-blocks : {d p a q g b h : Bool} → d ≡ badAt d-word → p ≡ badAt p-row → a ≡ badAt a-block → q ≡ badAt q-column → g ≡ badAt g-row → b ≡ badAt b-block → h ≡ badAt h-column
       → (d || (p || (a || (q || (g || (b || h)))))) ≡ badRow P N r s k word
@@ -158,7 +158,7 @@ module _ (P N r s k : ℕ) (row : List ℕ) where
   chain xs (κ ∷ κs) = badFrom (blocksSize r s xs) (blockSize r s κ) || chain (xs ++ (κ ∷ [])) κs
 
   from-more : (at m n : ℕ) → badFrom at (m + n) ≡ (badFrom at m || badFrom (at + m) n)
-  from-more at m n = some-more m n (λ e. leb P (getD row (at + e) 0)) ∙ ap (λ (f : ℕ → ℕ). badFrom at m || some n (λ e. leb P (getD row (f e) 0))) (fun-ext (λ e. sym (add-assoc at m e)))
+  from-more at m n = some-more m n (λ e. leb P (W (at + e))) ∙ ap (λ (f : ℕ → ℕ). badFrom at m || some n (λ e. leb P (W (f e)))) (fun-ext (λ e. sym (add-assoc at m e)))
 
   chained : (xs κs : List Kind) → badFrom (blocksSize r s xs) (blocksSize r s κs) ≡ chain xs κs
   chained xs [] = sym (some-start _)

@@ -13,7 +13,8 @@ use Rattle.table.specs.Limits.{standard}
 use Rattle.table.specs.Words.{Table, width, firstBad, firstBadPlace}
 use Rattle.table.specs.Replies.{Accepted, NoFault, accept, badPrime, badSize, badOrder, badPlace}
 use Rattle.table.specs.Results.{entryW}
-use Rattle.table.specs.Calls.{tableLength, entryChecks, entryReply, matrixChecks, matrixReply, applyChecks, applyReply, transposeChecks, transposeReply, multipleChecks, multipleReply, pairChecks, sumReply, productReply, solveEarlier, inverseEarlier}
+use Rattle.table.specs.RowFile.{fileBytes}
+use Rattle.table.specs.Calls.{tableLength, entryChecks, entryReply, matrixChecks, matrixReply, applyChecks, applyReply, transposeChecks, transposeReply, multipleChecks, multipleReply, pairChecks, sumReply, productReply, solveEarlier, inverseEarlier, writeChecks, writeReply}
 use Rattle.table.specs.CallLaws.{passed, no-row, both-hold, good-prime}
 
 -- The prime, the size and the orders are within the limits, the table is long enough and no used word of it is P or more.
@@ -69,6 +70,11 @@ module _ (P N : ℕ) (A : Table) where
   unfolding multipleReply
   multiple-passed k d ok = let c = passed (multipleChecks P N A k d) (accept 0) refl ok in
       (good P N A (c 0) (c 1) (c 2) (ltb-false _ _ (c 3)) (no-row _ (c 6)), ltb-false _ _ (c 4), leb-false _ _ (c 5))
+
+  pub write-passed : (f : List ℕ) → Accepted (writeReply P N A f) → Good P N A × (fileBytes N (A .lower) (A .upper) ≤ length f)
+  unfolding writeReply
+  write-passed f ok = let c = passed (writeChecks P N A f) (accept 0) refl ok in
+      (good P N A (c 0) (c 1) (c 2) (ltb-false _ _ (c 3)) (no-row _ (c 5)), ltb-false _ _ (c 4))
 
   -- the checks of solve before the pivots
   pub solve-passed : (x v d : List ℕ) → NoFault (solveEarlier P N A x v d) → Good P N A × (1 ≤ N) × (N ≤ length x) × (N * A .upper ≤ length v) × (N ≤ length d) × (firstBadPlace P N x ≡ 0)

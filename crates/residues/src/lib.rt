@@ -2,7 +2,7 @@
 ghost use mathlib.Core.Path.{_≡_};
 ghost use Rattle.table.specs.Words.{table as tab};
 ghost use Rattle.table.specs.Replies.{packed};
-ghost use Rattle.table.specs.Calls.{entryReply, matrixReply, matrixAfter, applyReply, applyAfter, applyTransposedAfter, transposeReply, transposeAfter, multipleReply, multipleAfter, sumReply, sumAfter, productReply, productAfter, solveReply, solveAfter, workAfter, inverseReply, inverseAfter};
+ghost use Rattle.table.specs.Calls.{entryReply, matrixReply, matrixAfter, applyReply, applyAfter, applyTransposedAfter, transposeReply, transposeAfter, multipleReply, multipleAfter, sumReply, sumAfter, productReply, productAfter, solveReply, solveAfter, workAfter, inverseReply, inverseAfter, readReply, readAfter, writeReply, writeAfter};
 
 #[no_mangle]
 pub extern "C" fn residues_entry(
@@ -164,4 +164,27 @@ pub extern "C" fn residues_inverse(
     ensures { λ v. ⌜ now (result .exit) ≡ inverseAfter p n (tab r s (now (table .entry))) (now (result .entry)) ⌝ }
 {
     checks::pack(solutions::inverse(p, n, r, s, table, result))
+}
+
+#[no_mangle]
+pub extern "C" fn residues_read_file(file: &[u8], result: &mut [u32]) -> u64
+    ensures { λ v. ⌜ v ≡ packed (readReply (now (file .entry)) (now (result .entry))) ⌝ }
+    ensures { λ v. ⌜ now (result .exit) ≡ readAfter (now (file .entry)) (now (result .entry)) ⌝ }
+{
+    checks::pack(rowfile::read(file, result))
+}
+
+#[no_mangle]
+pub extern "C" fn residues_write_file(
+    p: u32,
+    n: u32,
+    r: u32,
+    s: u32,
+    table: &[u32],
+    file: &mut [u8],
+) -> u64
+    ensures { λ v. ⌜ v ≡ packed (writeReply p n (tab r s (now (table .entry))) (now (file .entry))) ⌝ }
+    ensures { λ v. ⌜ now (file .exit) ≡ writeAfter p n (tab r s (now (table .entry))) (now (file .entry)) ⌝ }
+{
+    checks::pack(rowfile::write(p, n, r, s, table, file))
 }

@@ -1,6 +1,7 @@
 -- `checks::bad_row` meets its contract.
 use borrow.Author.Needs.{needs}
 use denote.Ref.{now}
+use lib.ListN.{getD}
 use Rattle.checks.specs.CheckLaws.{between}
 use Rattle.checks.proofs.bad_row.Statement.{statement}
 use Rattle.checks.proofs.bad_row.Tie as tie
@@ -15,4 +16,4 @@ bad-row-spec =
     (λ c κs. search needs)
     (λ c. search needs)
     (λ c κs. search needs)
-    (λ c. between _ _ _ _ _ (now (c .before .before .before .before .args .row)) (c .before .before .before .before .pre .0) (c .before .before .if1 .left) (c .before .if2 .left) _ (c .bad-words .ensures) (c .before .before .before .before .pre .3)))
+    (λ c. between _ _ _ _ _ (λ e. getD (now (c .before .before .before .before .args .row)) e 0) (c .before .before .before .before .pre .0) (c .before .before .if1 .left) (c .before .if2 .left) _ (c .bad-words .ensures) (c .before .before .before .before .pre .3)))

@@ -1,0 +1,30 @@
+-- `file_rows::write_part` meets its contract.
+use native.Mathlib.Omega.{arith}
+use borrow.Author.Needs.{needs}
+use Rattle.field.specs.Modulo.{sq-fits}
+use Rattle.file_rows.specs.Records.{partWords}
+use Rattle.file_rows.specs.RecordLaws.{part-bytes}
+use Rattle.file_rows.proofs.write_part.Statement.{statement}
+use Rattle.file_rows.proofs.write_part.Tie as tie
+
+returns : tie.Need-returns
+unfolding partWords
+returns c = let a = c .before .before .before .before .before .before .before .before .before .before .before .before .before .before .args in part-bytes (a .at) (a .o) _ _ _ _ _ _ _ (c .before .before .before .before .before .before .before .before .before .before .write-words .ensures) (c .before .before .before .before .before .before .write-words2 .ensures) (c .before .before .write-words3 .ensures)
+
+pub write-part-spec : {M : Type 1} → statement M
+write-part-spec =
+    tie.close
+    (tie.spec
+    (λ c. omega arith)
+    (λ c. omega arith)
+    (λ c. omega arith)
+    (λ c κs. omega arith)
+    (λ c. omega arith)
+    (λ c. omega arith)
+    (λ c κs. let p = c .before .before .before .before .before .before .before .pre in let z = sq-fits _ _ 8 (p .0) (p .0) in (omega arith, omega arith, omega (arith, c .before .before .before .write-words .kept), omega arith))
+    (λ c. omega arith)
+    (λ c. omega arith)
+    (λ c. omega arith)
+    (λ c κs. let p = c .before .before .before .before .before .before .before .before .before .before .before .pre in let z = sq-fits _ _ 8 (p .0) (p .0) in (omega arith, omega arith, omega (arith, c .before .before .before .write-words2 .kept, c .before .before .before .before .before .before .before .write-words .kept), omega arith))
+    (λ c. search needs)
+    returns)
