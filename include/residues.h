@@ -4,9 +4,14 @@
  * d, p, a, q, g, b, h, blocks row by row. Never used, and of any value: p, a, b, h of row 1 and a, q, g, b of row N.
  * Row 1 is a row like the others: its d and q, g are used.
  *
- * Every call takes any numbers and any buffers, each as a pointer and a count of words. A buffer that is written may overlap
- * no other; two that are only read may be the same. A refusal leaves every buffer as it was. Words past what a call needs
- * are neither read nor written. Calls share nothing, so they may run at the same time.
+ * A row file holds a table as bytes, which make little-endian 32-bit words: p (0 means 2147483647), n, r, s, the number of the
+ * first record, then n records, numbered from 1, each one word "next" and a row. The chain starts at the first record and
+ * follows next, and 0 ends it; the k-th record met is row k.
+ *
+ * Every call takes any numbers and any buffers, each as a pointer and a count of words, or of bytes for a file, which may lie at
+ * any address. A buffer that is written may overlap no other; two that are only read may be the same. A refusal leaves every
+ * buffer as it was. Words and bytes past what a call needs are neither read nor written, but a file that is read has its exact
+ * length. Calls share nothing, so they may run at the same time.
  */
 #ifndef RESIDUES_H
 #define RESIDUES_H
@@ -23,7 +28,7 @@ enum {
     RESIDUES_OK = 0,             /* accepted */
     RESIDUES_BAD_PRIME = 1,      /* p is no prime from 2 to 2147483647 */
     RESIDUES_BAD_SIZE = 2,       /* n is not 1 to 1024 */
-    RESIDUES_BAD_ORDER = 3,      /* an order above 8; beside it the table's buffer */
+    RESIDUES_BAD_ORDER = 3,      /* an order above 8; beside it the table's buffer, or the file's */
     RESIDUES_SHORT_BUFFER = 4,   /* a buffer shorter than needed; beside it the lowest such buffer */
     RESIDUES_BAD_WORD = 5,       /* a word that is read is not below p; beside it the lowest such buffer, its first such row; 0, 0: c */
     RESIDUES_BAD_ORDER_SUM = 6,  /* orders that add up to more than 8 */
@@ -53,6 +58,20 @@ static inline uint32_t residues_value(uint64_t reply) { return (uint32_t)(reply 
 /* The words of a row, and of a table of n rows. */
 static inline size_t residues_row_words(uint32_t r, uint32_t s) { return 1 + 2 * (size_t)r + (size_t)r * r + 2 * (size_t)s + (size_t)s * s; }
 static inline size_t residues_table_words(uint32_t n, uint32_t r, uint32_t s) { return (size_t)n * residues_row_words(r, s); }
+
+/* The bytes of a row file. */
+static inline size_t residues_file_bytes(uint32_t n, uint32_t r, uint32_t s) { return 4 * (5 + (size_t)n * (1 + residues_row_words(r, s))); }
+
+/* The numbers n, r and s in the head of a file, of which at least 20 bytes are lent. They are as the file has them, within limits
+ * or not: test them before you lend n * w words. residues_table_words(1024, 8, 8) words are enough for every file. */
+static inline uint32_t residues_file_word(const uint8_t *file, size_t place)
+{
+    const uint8_t *b = file + 4 * place;
+    return (uint32_t)b[0] | (uint32_t)b[1] << 8 | (uint32_t)b[2] << 16 | (uint32_t)b[3] << 24;
+}
+static inline uint32_t residues_file_size(const uint8_t *file) { return residues_file_word(file, 1); }
+static inline uint32_t residues_file_lower(const uint8_t *file) { return residues_file_word(file, 2); }
+static inline uint32_t residues_file_upper(const uint8_t *file) { return residues_file_word(file, 3); }
 
 /* The entry at (i, j), from 1, as the reply's value. Reads the table. Refuses 1, 2, 3, 8, 4, 5. */
 uint64_t residues_entry(uint32_t p, uint32_t n, uint32_t r, uint32_t s, uint32_t i, uint32_t j,
@@ -103,6 +122,17 @@ uint64_t residues_solve(uint32_t p, uint32_t n, uint32_t r, uint32_t s,
  * Refuses 1, 2, 3, 4, 5, 7, and 7 as above: also some regular matrices, and some tables that this call has written. */
 uint64_t residues_inverse(uint32_t p, uint32_t n, uint32_t r, uint32_t s,
                           const uint32_t *table, size_t table_len, uint32_t *result, size_t result_len);
+
+/* The table of a row file, n * w words of the file's own n, r and s, to the result, its idle words 0; the reply's value is p.
+ * Reads the file, whose length is residues_file_bytes of its own n, r and s exactly. Refuses 9 (under 20 bytes), 1, 2, 3, 9
+ * (another length), 4, 10, 5: 10 where a number of the chain is above n, 0 before n rows, or not 0 after n, beside it 6 and the
+ * rows read so far; 5 beside 6 and the first such row in the order of the chain. */
+uint64_t residues_read_file(const uint8_t *file, size_t file_len, uint32_t *result, size_t result_len);
+
+/* The row file of the table, residues_file_bytes(n, r, s) bytes, to the file: p in full, first record 1, records in the order of
+ * the rows, idle words 0. Reads the table. Refuses 1, 2, 3, 4, 5. */
+uint64_t residues_write_file(uint32_t p, uint32_t n, uint32_t r, uint32_t s,
+                             const uint32_t *table, size_t table_len, uint8_t *file, size_t file_len);
 
 #ifdef __cplusplus
 }

@@ -1,5 +1,6 @@
 /* Every call on buffers that lie against pages which may not be touched: at their end, then at their beginning.
- * What is only read lies in pages that may not be written. Each buffer in turn is exact, too short, too long, and NULL. */
+ * What is only read lies in pages that may not be written. Each buffer in turn is exact, too short, too long, and NULL.
+ * A buffer is lent in units: words, but the bytes of a file. */
 #define _DEFAULT_SOURCE
 #include <signal.h>
 #include <stdio.h>
@@ -11,18 +12,20 @@
 #include "residues.h"
 
 #define SURPLUS 0xdeadbeefu
-#define BUFFERS 5
+#define P 2147483647u
+#define BUFFERS 6
 
 /* The buffers of a case in their order, and their numbers in a reply. */
-enum { TABLE, SECOND, COLUMN, WORK, RESULT };
+enum { TABLE, SECOND, COLUMN, WORK, RESULT, FILE_BYTES };
 static const uint32_t number_of[BUFFERS] = {RESIDUES_TABLE, RESIDUES_SECOND_TABLE, RESIDUES_COLUMN, RESIDUES_WORK,
-                                            RESIDUES_RESULT};
+                                            RESIDUES_RESULT, RESIDUES_FILE};
 
-/* Words between two pages that may not be touched. */
+/* Words or bytes between two pages that may not be touched. */
 typedef struct {
     unsigned char *pages;
     size_t bytes;
     uint32_t *words;
+    uint8_t *file;
     size_t count;
 } lent;
 
@@ -36,7 +39,7 @@ typedef uint64_t caller(const numbers *x, const lent *b);
 typedef struct {
     const char *name;
     caller *run;
-    int uses_second, uses_column, uses_work, uses_result;
+    int uses[BUFFERS];
 } call;
 
 static char doing[300];
@@ -99,29 +102,46 @@ static uint64_t run_inverse(const numbers *x, const lent *b)
     return residues_inverse(x->p, x->n, x->r, x->s, b[TABLE].words, b[TABLE].count, b[RESULT].words, b[RESULT].count);
 }
 
-enum { ENTRY, MATRIX, APPLY, APPLY_TRANSPOSE, SOLVE, TRANSPOSE, MULTIPLE, INVERSE, SUM, PRODUCT, CALLS };
+static uint64_t run_read_file(const numbers *x, const lent *b)
+{
+    (void)x;
+    return residues_read_file(b[FILE_BYTES].file, b[FILE_BYTES].count, b[RESULT].words, b[RESULT].count);
+}
+
+static uint64_t run_write_file(const numbers *x, const lent *b)
+{
+    return residues_write_file(x->p, x->n, x->r, x->s, b[TABLE].words, b[TABLE].count, b[FILE_BYTES].file, b[FILE_BYTES].count);
+}
+
+enum { ENTRY, MATRIX, APPLY, APPLY_TRANSPOSE, SOLVE, TRANSPOSE, MULTIPLE, INVERSE, SUM, PRODUCT, READ_FILE, WRITE_FILE, CALLS };
 static const call calls[CALLS] = {
-    {"residues_entry", run_entry, 0, 0, 0, 0},
-    {"residues_matrix", run_matrix, 0, 0, 0, 1},
-    {"residues_apply", run_apply, 0, 1, 0, 1},
-    {"residues_apply_transpose", run_apply_transpose, 0, 1, 0, 1},
-    {"residues_solve", run_solve, 0, 1, 1, 1},
-    {"residues_transpose", run_transpose, 0, 0, 0, 1},
-    {"residues_multiple", run_multiple, 0, 0, 0, 1},
-    {"residues_inverse", run_inverse, 0, 0, 0, 1},
-    {"residues_sum", run_sum, 1, 0, 0, 1},
-    {"residues_product", run_product, 1, 0, 0, 1},
+    {"residues_entry", run_entry, {1, 0, 0, 0, 0, 0}},
+    {"residues_matrix", run_matrix, {1, 0, 0, 0, 1, 0}},
+    {"residues_apply", run_apply, {1, 0, 1, 0, 1, 0}},
+    {"residues_apply_transpose", run_apply_transpose, {1, 0, 1, 0, 1, 0}},
+    {"residues_solve", run_solve, {1, 0, 1, 1, 1, 0}},
+    {"residues_transpose", run_transpose, {1, 0, 0, 0, 1, 0}},
+    {"residues_multiple", run_multiple, {1, 0, 0, 0, 1, 0}},
+    {"residues_inverse", run_inverse, {1, 0, 0, 0, 1, 0}},
+    {"residues_sum", run_sum, {1, 1, 0, 0, 1, 0}},
+    {"residues_product", run_product, {1, 1, 0, 0, 1, 0}},
+    {"residues_read_file", run_read_file, {0, 0, 0, 0, 1, 1}},
+    {"residues_write_file", run_write_file, {1, 0, 0, 0, 0, 1}},
 };
 
 static int uses(const call *f, int buffer)
 {
-    const int used[BUFFERS] = {1, f->uses_second, f->uses_column, f->uses_work, f->uses_result};
-    return used[buffer];
+    return f->uses[buffer];
 }
 
-static int is_written(int buffer)
+static inline int reads_file(const call *f)
 {
-    return buffer == WORK || buffer == RESULT;
+    return f == &calls[READ_FILE];
+}
+
+static inline int is_written(const call *f, int buffer)
+{
+    return buffer == WORK || buffer == RESULT || (buffer == FILE_BYTES && !reads_file(f));
 }
 
 /* ---- failing ---- */
@@ -141,7 +161,7 @@ static void check(int holds, const char *what)
 /* A touch of a page that may not be touched ends here. */
 static void touched(int signal_number)
 {
-    const char *what = signal_number == SIGABRT ? ": the library gave up\n" : ": a word was touched that may not be\n";
+    const char *what = signal_number == SIGABRT ? ": the library gave up\n" : ": memory was touched that may not be\n";
     if (write(1, doing, strlen(doing)) < 0 || write(1, what, strlen(what)) < 0)
         _exit(3);
     _exit(2);
@@ -154,16 +174,22 @@ static size_t page(void)
     return (size_t)sysconf(_SC_PAGESIZE);
 }
 
-/* A buffer of so many words, its end or its beginning at a page that may not be touched. */
-static lent lend(size_t count, int at_end)
+static size_t unit(int buffer)
+{
+    return buffer == FILE_BYTES ? 1 : sizeof(uint32_t);
+}
+
+/* A buffer of so many words or bytes, its end or its beginning at a page that may not be touched. */
+static lent lend(int buffer, size_t count, int at_end)
 {
     lent b;
-    size_t inside = (count * sizeof(uint32_t) + page() - 1) / page() * page();
+    size_t inside = (count * unit(buffer) + page() - 1) / page() * page();
     b.bytes = inside + 2 * page();
     b.pages = mmap(NULL, b.bytes, PROT_NONE, MAP_PRIVATE | MAP_ANONYMOUS, -1, 0);
     check(b.pages != MAP_FAILED, "no memory");
     check(inside == 0 || mprotect(b.pages + page(), inside, PROT_READ | PROT_WRITE) == 0, "no memory to write");
-    b.words = (uint32_t *)(void *)(b.pages + page() + (at_end ? inside - count * sizeof(uint32_t) : 0));
+    b.file = b.pages + page() + (at_end ? inside - count * unit(buffer) : 0);
+    b.words = buffer == FILE_BYTES ? NULL : (uint32_t *)(void *)b.file;
     b.count = count;
     return b;
 }
@@ -181,7 +207,8 @@ static void give_back(lent *b)
 
 /* ---- one case ---- */
 
-/* What is handed in and owed: the words that are needed, and the words owed in work and result where the call accepts. */
+/* What is handed in and owed: the units that are needed, and the words owed in what is written where the call accepts. A file is
+ * given as words; the first four of one that is read are the numbers. */
 typedef struct {
     numbers x;
     const uint32_t *words[BUFFERS];
@@ -189,48 +216,73 @@ typedef struct {
     uint32_t value;
 } problem;
 
-/* The words before the call: those of the problem, then surplus; what is written is all surplus. */
-static uint32_t word_before(const problem *q, int buffer, size_t k)
+static uint32_t in_head(const numbers *x, size_t place)
 {
-    return !is_written(buffer) && k < q->needed[buffer] ? q->words[buffer][k] : SURPLUS;
+    const uint32_t head[4] = {x->p, x->n, x->r, x->s};
+    return head[place];
 }
 
-/* The words after an accepted call: work and result hold what is owed. */
-static uint32_t word_after(const problem *q, int buffer, size_t k)
+/* Unit k of the problem's buffer. */
+static inline uint32_t given(const call *f, const problem *q, int buffer, size_t k)
 {
-    return is_written(buffer) && k < q->needed[buffer] ? q->words[buffer][k] : word_before(q, buffer, k);
+    if (buffer != FILE_BYTES)
+        return q->words[buffer][k];
+    return (k < 16 && reads_file(f) ? in_head(&q->x, k / 4) : q->words[buffer][k / 4]) >> 8 * (k % 4) & 255;
 }
 
-static void check_words(const problem *q, const lent *b, int buffer, int accepted)
+static inline uint32_t surplus(int buffer)
+{
+    return buffer == FILE_BYTES ? SURPLUS & 255 : SURPLUS;
+}
+
+/* The units before the call: those of the problem, then surplus; what is written is all surplus. */
+static inline uint32_t unit_before(const call *f, const problem *q, int buffer, size_t k)
+{
+    return !is_written(f, buffer) && k < q->needed[buffer] ? given(f, q, buffer, k) : surplus(buffer);
+}
+
+/* The units after an accepted call: what is written holds what is owed. */
+static inline uint32_t unit_after(const call *f, const problem *q, int buffer, size_t k)
+{
+    return is_written(f, buffer) && k < q->needed[buffer] ? given(f, q, buffer, k) : unit_before(f, q, buffer, k);
+}
+
+static void check_units(const call *f, const problem *q, const lent *b, int buffer, int accepted)
 {
     size_t k;
     for (k = 0; k < b->count; k++) {
-        uint32_t owed = accepted ? word_after(q, buffer, k) : word_before(q, buffer, k);
-        if (b->words[k] != owed) {
-            printf("buffer %u word %lu: owed %u, came %u\n", number_of[buffer], (unsigned long)k, owed, b->words[k]);
-            fail("a wrong word");
+        uint32_t owed = accepted ? unit_after(f, q, buffer, k) : unit_before(f, q, buffer, k);
+        uint32_t came = buffer == FILE_BYTES ? b->file[k] : b->words[k];
+        if (came != owed) {
+            printf("buffer %u, word or byte %lu: owed %u, came %u\n", number_of[buffer], (unsigned long)k, owed, came);
+            fail("a wrong word or byte");
         }
     }
 }
 
-/* Memory of so many words as they are before the call; what is only read may not be written. */
-static lent prepare(const problem *q, int buffer, size_t count, int at_end)
+/* Memory of so many units as they are before the call; what is only read may not be written. */
+static lent prepare(const call *f, const problem *q, int buffer, size_t count, int at_end)
 {
-    lent b = lend(count, at_end);
+    lent b = lend(buffer, count, at_end);
     size_t k;
-    for (k = 0; k < count; k++)
-        b.words[k] = word_before(q, buffer, k);
-    if (!is_written(buffer))
+    for (k = 0; k < count; k++) {
+        if (buffer == FILE_BYTES)
+            b.file[k] = (uint8_t)unit_before(f, q, buffer, k);
+        else
+            b.words[k] = unit_before(f, q, buffer, k);
+    }
+    if (!is_written(f, buffer))
         only_read(&b);
     return b;
 }
 
 static void note(const call *f, const numbers *x, const lent *b, int at_end)
 {
-    snprintf(doing, sizeof doing, "%s, p %u n %u r %u s %u i %u j %u c %u r2 %u s2 %u, counts %lu %lu %lu %lu %lu, at the %s",
+    snprintf(doing, sizeof doing,
+             "%s, p %u n %u r %u s %u i %u j %u c %u r2 %u s2 %u, counts %lu %lu %lu %lu %lu %lu, at the %s",
              f->name, x->p, x->n, x->r, x->s, x->i, x->j, x->c, x->r2, x->s2, (unsigned long)b[TABLE].count,
              (unsigned long)b[SECOND].count, (unsigned long)b[COLUMN].count, (unsigned long)b[WORK].count,
-             (unsigned long)b[RESULT].count, at_end ? "end" : "beginning");
+             (unsigned long)b[RESULT].count, (unsigned long)b[FILE_BYTES].count, at_end ? "end" : "beginning");
 }
 
 static void check_reply(uint64_t reply, uint64_t owed)
@@ -242,21 +294,23 @@ static void check_reply(uint64_t reply, uint64_t owed)
     fail("a wrong reply");
 }
 
-/* Runs a call on counts of words; a count of 0 may be NULL. */
+/* Runs a call on counts of words and bytes; a count of 0 may be NULL. */
 static void try_counts(const call *f, const problem *q, const size_t *counts, int as_null, int at_end, uint64_t owed)
 {
     lent b[BUFFERS], handed[BUFFERS];
     int buffer;
     for (buffer = 0; buffer < BUFFERS; buffer++) {
-        b[buffer] = prepare(q, buffer, uses(f, buffer) ? counts[buffer] : 0, at_end);
+        b[buffer] = prepare(f, q, buffer, uses(f, buffer) ? counts[buffer] : 0, at_end);
         handed[buffer] = b[buffer];
-        if (as_null && b[buffer].count == 0)
+        if (as_null && b[buffer].count == 0) {
             handed[buffer].words = NULL;
+            handed[buffer].file = NULL;
+        }
     }
     note(f, &q->x, b, at_end);
     check_reply(f->run(&q->x, handed), owed);
     for (buffer = 0; buffer < BUFFERS; buffer++) {
-        check_words(q, &b[buffer], buffer, residues_number(owed) == RESIDUES_OK);
+        check_units(f, q, &b[buffer], buffer, residues_number(owed) == RESIDUES_OK);
         give_back(&b[buffer]);
     }
     passed++;
@@ -267,21 +321,23 @@ static uint64_t refusal(uint32_t number, uint32_t buffer, uint32_t row)
     return number + 256u * buffer + 65536u * row;
 }
 
-/* Too short where a count is below what is needed, the lowest buffer first; else accepted. */
+/* Too short where a count is below what is needed, the lowest buffer first; else accepted. A file that is read is exact. */
 static uint64_t owed_for(const call *f, const problem *q, const size_t *counts)
 {
     int buffer;
+    if (reads_file(f) && counts[FILE_BYTES] != q->needed[FILE_BYTES])
+        return refusal(RESIDUES_BAD_LENGTH, RESIDUES_FILE, 0);
     for (buffer = 0; buffer < BUFFERS; buffer++)
         if (uses(f, buffer) && counts[buffer] < q->needed[buffer])
             return refusal(RESIDUES_SHORT_BUFFER, number_of[buffer], 0);
     return (uint64_t)q->value << 32;
 }
 
-/* Each buffer exact, one word short, empty and longer, in all combinations. */
+/* Each buffer exact, one unit short, empty and longer, in all combinations. */
 static void try_all_counts(const call *f, const problem *q)
 {
     int choice, buffer, as_null, at_end;
-    for (choice = 0; choice < 4 * 4 * 4 * 4 * 4; choice++) {
+    for (choice = 0; choice < 4 * 4 * 4 * 4 * 4 * 4; choice++) {
         size_t counts[BUFFERS];
         int rest = choice, repeated = 0, empty = 0;
         for (buffer = 0; buffer < BUFFERS; buffer++, rest /= 4) {
@@ -303,8 +359,10 @@ static void try_all_counts(const call *f, const problem *q)
 /* A number out of limits, in buffers of the right counts and in empty ones. */
 static void try_refused(const call *f, const problem *q, uint64_t owed)
 {
-    static const size_t empty[BUFFERS] = {0, 0, 0, 0, 0};
+    size_t empty[BUFFERS] = {0, 0, 0, 0, 0, 0};
     try_counts(f, q, q->needed, 1, 1, owed);
+    if (reads_file(f))
+        empty[FILE_BYTES] = 20;
     try_counts(f, q, empty, 1, 1, owed);
 }
 
@@ -315,7 +373,7 @@ static void try_numbers(const call *f, const problem *q)
     static const uint32_t wrong_order[] = {9, 65535, 65536, 2147483648u, 4294967295u};
     problem wrong = *q;
     size_t k;
-    for (k = 0; k < COUNT(wrong_p); k++, wrong = *q) {
+    for (k = reads_file(f) ? 1 : 0; k < COUNT(wrong_p); k++, wrong = *q) {
         wrong.x.p = wrong_p[k];
         try_refused(f, &wrong, refusal(RESIDUES_BAD_PRIME, 0, 0));
     }
@@ -325,13 +383,13 @@ static void try_numbers(const call *f, const problem *q)
     }
     for (k = 0; k < 2 * COUNT(wrong_order); k++, wrong = *q) {
         *(k % 2 == 0 ? &wrong.x.r : &wrong.x.s) = wrong_order[k / 2];
-        try_refused(f, &wrong, refusal(RESIDUES_BAD_ORDER, RESIDUES_TABLE, 0));
+        try_refused(f, &wrong, refusal(RESIDUES_BAD_ORDER, reads_file(f) ? RESIDUES_FILE : RESIDUES_TABLE, 0));
     }
-    for (k = 0; k < 2 * COUNT(wrong_order) && f->uses_second; k++, wrong = *q) {
+    for (k = 0; k < 2 * COUNT(wrong_order) && uses(f, SECOND); k++, wrong = *q) {
         *(k % 2 == 0 ? &wrong.x.r2 : &wrong.x.s2) = wrong_order[k / 2];
         try_refused(f, &wrong, refusal(RESIDUES_BAD_ORDER, RESIDUES_SECOND_TABLE, 0));
     }
-    for (k = 0; k < 2 * 8 && f->uses_second; k++, wrong = *q) {
+    for (k = 0; k < 2 * 8 && uses(f, SECOND); k++, wrong = *q) {
         *(k % 2 == 0 ? &wrong.x.r : &wrong.x.s) = 1 + (uint32_t)k / 2;
         *(k % 2 == 0 ? &wrong.x.r2 : &wrong.x.s2) = 8 - (uint32_t)k / 2;
         try_refused(f, &wrong, refusal(RESIDUES_BAD_ORDER_SUM, 0, 0));
@@ -385,6 +443,7 @@ static problem problem_of(int which, numbers x, const uint32_t *table, const uin
     q.needed[TABLE] = residues_table_words(x.n, x.r, x.s);
     q.needed[COLUMN] = x.n;
     q.needed[WORK] = (size_t)x.n * x.s;
+    q.needed[FILE_BYTES] = residues_file_bytes(x.n, x.r, x.s);
     q.needed[RESULT] = which == MATRIX ? (size_t)x.n * x.n : which < TRANSPOSE ? x.n : q.needed[TABLE];
     q.value = value;
     return q;
@@ -433,19 +492,18 @@ static void try_regular(int which, numbers x, const uint32_t *table, const uint3
 static void try_one_buffer_twice(const call *f, const problem *q, int at_end)
 {
     lent b[BUFFERS];
-    b[TABLE] = prepare(q, TABLE, q->needed[TABLE], at_end);
-    b[COLUMN] = prepare(q, COLUMN, 0, at_end);
-    b[WORK] = prepare(q, WORK, 0, at_end);
-    b[RESULT] = prepare(q, RESULT, q->needed[RESULT], at_end);
+    int buffer;
+    for (buffer = 0; buffer < BUFFERS; buffer++)
+        if (buffer != SECOND)
+            b[buffer] = prepare(f, q, buffer, uses(f, buffer) ? q->needed[buffer] : 0, at_end);
     b[SECOND] = b[TABLE];
     note(f, &q->x, b, at_end);
     check_reply(f->run(&q->x, b), 0);
-    check_words(q, &b[TABLE], TABLE, 1);
-    check_words(q, &b[RESULT], RESULT, 1);
-    give_back(&b[TABLE]);
-    give_back(&b[COLUMN]);
-    give_back(&b[WORK]);
-    give_back(&b[RESULT]);
+    check_units(f, q, &b[TABLE], TABLE, 1);
+    check_units(f, q, &b[RESULT], RESULT, 1);
+    for (buffer = 0; buffer < BUFFERS; buffer++)
+        if (buffer != SECOND)
+            give_back(&b[buffer]);
     passed++;
 }
 
@@ -467,6 +525,85 @@ static void try_pair(int which, numbers x, const uint32_t *first, const uint32_t
     }
 }
 
+/* ---- row files ---- */
+
+/* A file with one word changed is refused. */
+static void try_file_with(const problem *q, size_t place, uint32_t word, uint64_t owed)
+{
+    const call *f = &calls[READ_FILE];
+    problem wrong = *q;
+    size_t longer[BUFFERS];
+    uint32_t *words = malloc(q->needed[FILE_BYTES]);
+    int at_end;
+    check(words != NULL, "no memory");
+    memcpy(words, q->words[FILE_BYTES], q->needed[FILE_BYTES]);
+    words[place] = word;
+    wrong.words[FILE_BYTES] = words;
+    memcpy(longer, q->needed, sizeof longer);
+    longer[RESULT] += 3;
+    for (at_end = 0; at_end < 2; at_end++)
+        try_counts(f, &wrong, at_end ? q->needed : longer, 0, at_end, owed);
+    free(words);
+}
+
+/* Every count of bytes to 40 and around the file's own; the file is small. */
+static void try_file_counts(const problem *q)
+{
+    const call *f = &calls[READ_FILE];
+    const size_t own = q->needed[FILE_BYTES];
+    size_t counts[BUFFERS], k;
+    int at_end;
+    memcpy(counts, q->needed, sizeof counts);
+    for (k = 0; k <= 40 + 9; k++) {
+        counts[FILE_BYTES] = k <= 40 ? k : own + k - 45;
+        for (at_end = 0; at_end < 2; at_end++)
+            try_counts(f, q, counts, 1, at_end, owed_for(f, q, counts));
+    }
+}
+
+/* A file that is read as the result, its rows 1 and n in the records first and last, and the file that the table is written as. */
+static void try_files(numbers x, const uint32_t *table, const uint32_t *result, const uint32_t *read, const uint32_t *written,
+                      uint32_t first, uint32_t last)
+{
+    const size_t record = 1 + residues_row_words(x.r, x.s), start = 5 + (first - 1) * record, end = 5 + (last - 1) * record;
+    const uint32_t p = x.p;
+    problem q = problem_of(READ_FILE, x, table, NULL, NULL, result, p);
+    q.words[FILE_BYTES] = read;
+    try_all_counts(&calls[READ_FILE], &q);
+    try_numbers(&calls[READ_FILE], &q);
+    if (x.n < 1024)
+        try_file_counts(&q);
+    try_file_with(&q, 4, 0, refusal(RESIDUES_BAD_CHAIN, RESIDUES_FILE, 0));
+    try_file_with(&q, 4, x.n + 1, refusal(RESIDUES_BAD_CHAIN, RESIDUES_FILE, 0));
+    try_file_with(&q, 4, 4294967295u, refusal(RESIDUES_BAD_CHAIN, RESIDUES_FILE, 0));
+    try_file_with(&q, end, first, refusal(RESIDUES_BAD_CHAIN, RESIDUES_FILE, x.n));
+    try_file_with(&q, end, 2147483648u, refusal(RESIDUES_BAD_CHAIN, RESIDUES_FILE, x.n));
+    if (x.n > 1) {
+        try_file_with(&q, start, 0, refusal(RESIDUES_BAD_CHAIN, RESIDUES_FILE, 1));
+        try_file_with(&q, start, x.n + 1, refusal(RESIDUES_BAD_CHAIN, RESIDUES_FILE, 1));
+        try_file_with(&q, start, first, refusal(RESIDUES_BAD_CHAIN, RESIDUES_FILE, x.n));
+    }
+    try_file_with(&q, start + 1, p, refusal(RESIDUES_BAD_WORD, RESIDUES_FILE, 1));
+    try_file_with(&q, end + 1, p, refusal(RESIDUES_BAD_WORD, RESIDUES_FILE, x.n));
+    q.x.p = 0;
+    q.value = P;
+    try_counts(&calls[READ_FILE], &q, q.needed, 0, 1, (uint64_t)P << 32);
+    q = problem_of(WRITE_FILE, x, table, NULL, NULL, NULL, 0);
+    q.words[FILE_BYTES] = written;
+    try_whole(&calls[WRITE_FILE], &q);
+}
+
+/* What the header says of a file's head. */
+static void try_head(void)
+{
+    const uint8_t head[20] = {7, 0, 0, 0, 0xff, 3, 0, 0, 8, 0, 0, 0, 4, 3, 2, 0x81, 1, 0, 0, 0};
+    snprintf(doing, sizeof doing, "the numbers in a file's head");
+    check(residues_file_size(head) == 1023 && residues_file_lower(head) == 8, "a wrong n or r");
+    check(residues_file_upper(head) == 0x81020304u, "a wrong s");
+    check(residues_file_bytes(3, 1, 1) == 116 && residues_file_bytes(1024, 8, 8) == 663572, "a wrong count of bytes");
+    passed++;
+}
+
 /* ---- file M's table ---- */
 
 static void file_m(void)
@@ -486,6 +623,9 @@ static void file_m(void)
                                       4, 3, 1, 0, 0, 0, 0, 0, 0, 0, 0, 0, 0, 0, 0, 6, 4};
     static const uint32_t work[] = {1, 3, 0};
     static const uint32_t inverse[] = {3, 0, 0, 2, 1, 0, 0, 2, 2, 5, 4, 3, 0, 6, 2, 1, 0, 0, 0, 0, 6};
+    static const uint32_t read[] = {7, 3, 1, 1, 2, 0, 5, 3, 9, 9, 9, 9, 4, 3, 1, 9, 9, 2, 1, 9, 9, 1, 3, 1, 2, 1, 2, 3, 1};
+    static const uint32_t written[] = {7, 3, 1, 1, 1, 2, 1, 0, 0, 2, 1, 0, 0, 3, 3, 1, 2, 1, 2, 3, 1, 0, 5, 3, 0, 0, 0, 0, 4};
+    static const uint32_t as_read[] = {1, 0, 0, 2, 1, 0, 0, 3, 1, 2, 1, 2, 3, 1, 5, 3, 0, 0, 0, 0, 4};
     const numbers x = {7, 3, 1, 1, 3, 1, 3, 1, 1};
     try_problem(ENTRY, x, table, column, NULL, 5);
     try_problem(MATRIX, x, table, column, matrix, 0);
@@ -497,11 +637,10 @@ static void file_m(void)
     try_regular(INVERSE, x, table, NULL, NULL, inverse, 1);
     try_pair(SUM, x, table, table, twice);
     try_pair(PRODUCT, x, table, table, square);
+    try_files(x, table, as_read, read, written, 2, 1);
 }
 
 /* ---- tables of any size whose matrix is known ---- */
-
-#define P 2147483647u
 
 static uint32_t *room(size_t count)
 {
@@ -645,6 +784,33 @@ static void known_swept(numbers x, const uint32_t *table, const uint32_t *applie
     free(rows);
 }
 
+/* A file's words with the rows of a table, in order or backwards. */
+static void fill_file(uint32_t *w, numbers x, const uint32_t *table, int backwards)
+{
+    const size_t words = residues_row_words(x.r, x.s);
+    const uint32_t head[5] = {x.p, x.n, x.r, x.s, backwards ? x.n : 1};
+    uint32_t m;
+    memcpy(w, head, sizeof head);
+    for (w += 5, m = 1; m <= x.n; m++, w += 1 + words) {
+        w[0] = backwards ? m - 1 : m < x.n ? m + 1 : 0;
+        memcpy(w + 1, table + (backwards ? x.n - m : m - 1) * words, words * sizeof *table);
+    }
+}
+
+/* The table's file written, and read with its records backwards; no word but the idle ones tells. */
+static void known_files(numbers x, const uint32_t *table)
+{
+    const size_t count = residues_file_bytes(x.n, x.r, x.s) / 4;
+    uint32_t *result = room(residues_table_words(x.n, x.r, x.s)), *read = room(count), *written = room(count);
+    fill(result, x, 5, 2, 1, 3, 1, 0);
+    fill_file(read, x, table, 1);
+    fill_file(written, x, result, 0);
+    try_files(x, table, result, read, written, x.n, 1);
+    free(result);
+    free(read);
+    free(written);
+}
+
 /* d 5, p 2, g 3, applied to ones, and solved for ones. */
 static void known(uint32_t n, uint32_t r, uint32_t s)
 {
@@ -663,6 +829,7 @@ static void known(uint32_t n, uint32_t r, uint32_t s)
         result[i - 1] = 5 + (i - 1) * 2 * r + (n - i) * 3 * s;
     try_problem(APPLY, x, table, column, result, 0);
     known_swept(x, table, result, column);
+    known_files(x, table);
     for (i = 1; i <= n; i++)
         result[i - 1] = 5 + (i - 1) * 3 * s + (n - i) * 2 * r;
     try_problem(APPLY_TRANSPOSE, x, table, column, result, 0);
@@ -750,6 +917,7 @@ int main(void)
     signal(SIGSEGV, touched);
     signal(SIGBUS, touched);
     signal(SIGABRT, touched);
+    try_head();
     file_m();
     known(1, 0, 0);
     known(1, 1, 2);

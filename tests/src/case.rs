@@ -3,6 +3,7 @@
 use crate::dense::Table;
 use crate::joined::Pair;
 use crate::layout::Shape;
+use crate::row_file;
 
 /// What a buffer has room for.
 #[derive(Clone, Copy, PartialEq, Debug)]
@@ -17,9 +18,20 @@ pub enum Holds {
     Square,
     /// N·s words.
     Work,
+    /// A row file of the first lent table.
+    WrittenFile,
+    /// A row file that says its own P, N and orders.
+    ReadFile,
 }
 
-/// A lent buffer: its number in the papers, its room, its words.
+impl Holds {
+    /// Whether bytes are lent, not words.
+    pub fn is_file(self) -> bool {
+        matches!(self, Holds::WrittenFile | Holds::ReadFile)
+    }
+}
+
+/// A lent buffer: its number in the papers, its room, its words, or its bytes as numbers.
 #[derive(Clone, Debug)]
 pub struct Buffer {
     pub number: u32,
@@ -36,24 +48,28 @@ impl Buffer {
         Buffer { number, holds, words, null: false, shared: false }
     }
 
-    /// Tables and columns are read, work and result are written.
+    /// Tables and columns are read, work and result are written, and files are either.
     pub fn is_read(&self) -> bool {
-        self.number <= 3
+        self.number <= 3 || self.holds == Holds::ReadFile
     }
 }
 
-/// A fault that was planted, in the order of planting: pivots are made of sound words, numbers go out of limits last.
+/// A fault that was planted, in the order of planting: pivots are made of sound words, numbers go out of limits last, and only
+/// then a file loses its head.
 #[derive(Clone, Copy, PartialEq, Eq, PartialOrd, Ord, Debug)]
 pub enum Fault {
     Pivot,
     Word(u32),
     Short(u32),
+    Chain,
+    Length,
     Factor,
     Place,
     OrderSums,
     Orders(usize),
     Size,
     Prime,
+    Head,
 }
 
 /// Everything that is handed to a call; numbers that the call does not take are 1.
@@ -88,11 +104,11 @@ impl Case {
         match holds {
             Holds::Table(which) => Some(self.shape(which)),
             Holds::Joined => Some(self.joined()),
-            Holds::Column | Holds::Square | Holds::Work => None,
+            Holds::Column | Holds::Square | Holds::Work | Holds::WrittenFile | Holds::ReadFile => None,
         }
     }
 
-    /// The words that a buffer needs; N and the orders are within limits.
+    /// The words that a buffer needs, or bytes; N and the orders are within limits.
     pub fn needed(&self, holds: Holds) -> usize {
         match holds {
             Holds::Table(which) => self.shape(which).table_words(),
@@ -100,6 +116,7 @@ impl Case {
             Holds::Column => self.n as usize,
             Holds::Square => self.n as usize * self.n as usize,
             Holds::Work => self.n as usize * self.shape(0).s,
+            Holds::WrittenFile | Holds::ReadFile => row_file::length(self.shape(0)),
         }
     }
 
@@ -114,6 +131,43 @@ impl Case {
     /// The words of a column that is read.
     pub fn column(&self) -> &[u32] {
         &self.buffer(3).words[..self.n as usize]
+    }
+
+    /// A case of reading a file.
+    pub fn reading(result: Vec<u32>, file: &[u32]) -> Case {
+        let buffers = vec![Buffer::new(5, Holds::Table(0), result), Buffer::new(6, Holds::ReadFile, file.to_vec())];
+        let mut case = Case { p: 1, n: 1, orders: vec![(1, 1)], place: (1, 1), c: 1, buffers, faults: vec![] };
+        case.read_head();
+        case
+    }
+
+    /// Takes P, N and the orders from the head of the file that is read, unless it is cut.
+    pub fn read_head(&mut self) {
+        if let [p, n, r, s, _, ..] = self.file_words()[..] {
+            (self.p, self.n, self.orders) = (row_file::prime_of(p), n, vec![(r, s)]);
+        }
+    }
+
+    /// The words of the file that is read.
+    pub fn file_words(&self) -> Vec<u32> {
+        row_file::words(&self.buffer(6).words)
+    }
+
+    /// The record numbers of its rows, or the rows read so far.
+    pub fn file_chain(&self) -> Result<Vec<u32>, u32> {
+        row_file::chain(self.shape(0), &self.file_words())
+    }
+
+    /// Its rows in the order of the chain, which is right.
+    pub fn file_rows(&self) -> Vec<u32> {
+        let records = self.file_chain().expect("the chain is right");
+        row_file::rows(self.shape(0), &self.file_words(), &records)
+    }
+
+    /// Changes a word of it, which may be one of the head.
+    pub fn set_file_word(&mut self, place: usize, word: u32) {
+        self.buffer_mut(6).words[4 * place..][..4].copy_from_slice(&row_file::bytes(&[word]));
+        self.read_head();
     }
 
     /// The first table, for the dense program.

@@ -6,6 +6,7 @@ use crate::faults;
 use crate::layout::Shape;
 use crate::random::Random;
 use crate::refusals::{is_prime, LARGEST_ORDER, LARGEST_PRIME};
+use crate::row_file;
 use crate::swept::choose_pivots;
 
 const PRIMES: [u32; 7] = [2, 3, 5, 7, 101, 2_147_483_629, LARGEST_PRIME];
@@ -178,12 +179,37 @@ fn draw_residues(p: u32, count: usize, random: &mut Random) -> Vec<u32> {
 fn draw_words(case: &Case, buffer: &Buffer, random: &mut Random) -> Vec<u32> {
     let needed = case.needed(buffer.holds);
     if !buffer.is_read() {
-        return (0..needed).map(|_| random.word()).collect();
+        return draw_any(needed, buffer.holds, random);
     }
     match buffer.holds {
         Holds::Table(which) => draw_table(case.p, case.shape(which), random),
+        Holds::ReadFile => draw_file(case.p, case.shape(0), random),
         _ => draw_residues(case.p, needed, random),
     }
+}
+
+/// Any words, or any bytes.
+fn draw_any(count: usize, holds: Holds, random: &mut Random) -> Vec<u32> {
+    let most = if holds.is_file() { 255 } else { u32::MAX };
+    (0..count).map(|_| random.word() & most).collect()
+}
+
+/// The bytes of a file, its records mostly in any order; at times 0 stands for the house prime.
+pub fn draw_file(p: u32, shape: Shape, random: &mut Random) -> Vec<u32> {
+    let table = draw_table(p, shape, random);
+    let p = if p == LARGEST_PRIME && random.once_in(2) { 0 } else { p };
+    row_file::bytes(&row_file::laid_out(p, shape, &table, &draw_records(shape.n, random)))
+}
+
+/// The record number of each row: in the order of the rows, backwards, or mostly in any order.
+pub fn draw_records(n: usize, random: &mut Random) -> Vec<u32> {
+    let mut records: Vec<u32> = (1..=n as u32).collect();
+    match random.below(6) {
+        0 => {}
+        1 => records.reverse(),
+        _ => (1..n).for_each(|last| records.swap(last, random.below(last + 1))),
+    }
+    records
 }
 
 /// A table's words, exact: residues where they are used.
@@ -211,12 +237,12 @@ fn fill_idle(words: &mut [u32], p: u32, shape: Shape, random: &mut Random) {
     }
 }
 
-/// Words behind what is needed: none, a few, or a row's.
+/// Words behind what is needed, or bytes: none, a few, or a row's. A file that is read has none.
 fn add_surplus(case: &mut Case, random: &mut Random) {
     let row = case.shape(0).row_words();
-    for buffer in &mut case.buffers {
+    for buffer in case.buffers.iter_mut().filter(|buffer| buffer.holds != Holds::ReadFile) {
         let count = random.one_of(&[0, 0, 0, 1, 2, 9, row, row + 1]);
-        buffer.words.extend((0..count).map(|_| random.word()));
+        buffer.words.extend(draw_any(count, buffer.holds, random));
     }
 }
 
@@ -227,9 +253,8 @@ fn share(case: &mut Case, random: &mut Random) {
     if case.faults.iter().any(own) || !random.once_in(if alike { 12 } else { 50 }) {
         return;
     }
-    let words = case.buffer(1).words.clone();
-    if let Some(buffer) = case.buffers.iter_mut().find(|buffer| (2..=3).contains(&buffer.number)) {
-        buffer.words = words;
-        buffer.shared = true;
+    if let Some(place) = case.buffers.iter().position(|buffer| (2..=3).contains(&buffer.number)) {
+        case.buffers[place].words = case.buffer(1).words.clone();
+        case.buffers[place].shared = true;
     }
 }

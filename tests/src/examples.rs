@@ -6,6 +6,7 @@ use crate::refusals::{Reply, LARGEST_PRIME};
 use crate::tally::Tally;
 use crate::trial::{compare, owed};
 
+mod files;
 mod solved;
 mod two;
 
@@ -40,7 +41,8 @@ pub fn run(tally: &mut Tally) -> Result<(), String> {
     examples.large_products()?;
     examples.one_table_as_column()?;
     examples.on_two_tables()?;
-    examples.of_pivots()
+    examples.of_pivots()?;
+    examples.of_files()
 }
 
 struct Examples<'t> {

@@ -6,6 +6,8 @@ use crate::random::Random;
 use crate::refusals::LARGEST_PRIME;
 use crate::swept::choose_pivots;
 
+pub mod file;
+
 /// Units, squares, products of two primes, pseudoprimes, and primes above the limit.
 #[rustfmt::skip]
 const NO_PRIMES: [u32; 26] = [
@@ -26,9 +28,12 @@ pub fn all(call: &Call) -> Vec<Fault> {
         Number::Place => faults.push(Fault::Place),
         Number::Factor => faults.push(Fault::Factor),
     }
-    let numbers = || call.buffers.iter().map(|&(number, _)| number);
+    let numbers = || call.buffers.iter().filter(|(_, holds)| *holds != Holds::ReadFile).map(|&(number, _)| number);
     faults.extend(numbers().map(Fault::Short));
     faults.extend(numbers().filter(|&number| number <= 3).map(Fault::Word));
+    if call.reads_file() {
+        faults.extend([Fault::Word(6), Fault::Chain, Fault::Length, Fault::Head]);
+    }
     if call.pivots {
         faults.push(Fault::Pivot);
     }
@@ -45,6 +50,13 @@ pub fn draw(call: &Call, random: &mut Random) -> Vec<Fault> {
 }
 
 pub fn plant(case: &mut Case, fault: Fault, random: &mut Random) {
+    if case.buffers.iter().any(|buffer| buffer.holds == Holds::ReadFile) {
+        return file::plant(case, fault, random);
+    }
+    plant_in_call(case, fault, random);
+}
+
+fn plant_in_call(case: &mut Case, fault: Fault, random: &mut Random) {
     match fault {
         Fault::Pivot => plant_pivot(case, random),
         Fault::Prime => case.p = draw_no_prime(random),
@@ -55,6 +67,7 @@ pub fn plant(case: &mut Case, fault: Fault, random: &mut Random) {
         Fault::Factor => case.c = not_below(case.p, random),
         Fault::Short(number) => cut(case, number, random),
         Fault::Word(number) => plant_words(case, number, random),
+        Fault::Chain | Fault::Length | Fault::Head => panic!("{fault:?} belongs to a file"),
     }
 }
 

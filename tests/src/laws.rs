@@ -11,6 +11,7 @@ use crate::refusals::{LARGEST_ORDER, LARGEST_PRIME};
 use crate::tally::Tally;
 use crate::trial::{compare, ended, only_accepted};
 
+mod files;
 mod inverses;
 mod singular;
 mod small;
@@ -22,7 +23,7 @@ pub struct Law {
     run: fn(&mut Laws) -> Result<(), String>,
 }
 
-pub const LAWS: [Law; 19] = [
+pub const LAWS: [Law; 27] = [
     Law { name: "groupings", times: 180, run: Laws::groupings },
     Law { name: "product_by_sum", times: 200, run: Laws::product_by_sum },
     Law { name: "transposed_product", times: 200, run: Laws::transposed_product },
@@ -42,6 +43,14 @@ pub const LAWS: [Law; 19] = [
     Law { name: "singular_rows_large", times: 8, run: Laws::singular_rows_large },
     Law { name: "small_matrices", times: small::PARTS, run: Laws::small_matrices },
     Law { name: "small_tables", times: small::PARTS, run: Laws::small_tables },
+    Law { name: "round_trips", times: 400, run: Laws::round_trips },
+    Law { name: "round_trips_large", times: 12, run: Laws::round_trips_large },
+    Law { name: "damaged_files", times: 8_000, run: Laws::damaged_files },
+    Law { name: "exchanged_records", times: 200, run: Laws::exchanged_records },
+    Law { name: "flipped_bits", times: 24, run: Laws::flipped_bits },
+    Law { name: "file_lengths", times: 18, run: Laws::file_lengths },
+    Law { name: "every_chain", times: files::PARTS, run: Laws::every_chain },
+    Law { name: "every_word", times: 60, run: Laws::every_word },
 ];
 
 impl Law {

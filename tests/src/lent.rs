@@ -1,66 +1,103 @@
-//! The memory of a case's buffers: each lies between words that are not lent.
+//! The memory of a case's buffers: each lies between words or bytes that are not lent.
 
 use crate::case::{Buffer, Case};
+use std::borrow::Cow;
 
-const GUARD: usize = 4;
+/// Odd, so that lent bytes begin at no word's place.
+const GUARD: usize = 5;
 const GUARD_WORD: u32 = 0xdead_beef;
+const GUARD_BYTE: u8 = 0xad;
 
 pub struct Lent {
-    buffers: Vec<Memory>,
+    words: Vec<Memory<u32>>,
+    files: Vec<Memory<u8>>,
 }
 
-struct Memory {
+struct Memory<T> {
     number: u32,
-    count: usize,
     null: bool,
     shared: bool,
-    words: Vec<u32>,
+    guard: T,
+    all: Vec<T>,
 }
 
 impl Lent {
     pub fn new(case: &Case) -> Lent {
-        Lent { buffers: case.buffers.iter().map(Memory::new).collect() }
+        let (files, words): (Vec<&Buffer>, Vec<&Buffer>) = case.buffers.iter().partition(|buffer| buffer.holds.is_file());
+        let byte = |&byte: &u32| u8::try_from(byte).expect("a file has bytes");
+        let bytes = |buffer: &Buffer| buffer.words.iter().map(byte).collect::<Vec<u8>>();
+        Lent {
+            words: words.into_iter().map(|buffer| Memory::new(buffer, &buffer.words, GUARD_WORD)).collect(),
+            files: files.into_iter().map(|buffer| Memory::new(buffer, &bytes(buffer), GUARD_BYTE)).collect(),
+        }
     }
 
     /// A buffer as a pointer to words that are only read, and their count.
     pub fn read(&self, number: u32) -> (*const u32, usize) {
-        let memory = self.memory(number);
-        let place = if memory.shared { self.memory(1) } else { memory };
-        let pointer = if memory.null { std::ptr::null() } else { place.words[GUARD..].as_ptr() };
-        (pointer, memory.count)
+        let memory = of(&self.words, number);
+        let place = if memory.shared { of(&self.words, 1) } else { memory };
+        let pointer = if memory.null { std::ptr::null() } else { place.lent().as_ptr() };
+        (pointer, memory.lent().len())
     }
 
     /// A buffer as a pointer to words that may be written, and their count.
     pub fn write(&mut self, number: u32) -> (*mut u32, usize) {
-        let memory = self.buffers.iter_mut().find(|memory| memory.number == number).expect("the call has this buffer");
-        let pointer = if memory.null { std::ptr::null_mut() } else { memory.words[GUARD..].as_mut_ptr() };
-        (pointer, memory.count)
+        of_mut(&mut self.words, number).write()
     }
 
-    /// The lent words of a buffer.
-    pub fn words(&self, number: u32) -> &[u32] {
-        let memory = self.memory(number);
-        &memory.words[GUARD..][..memory.count]
+    /// A file as a pointer to bytes that are only read, and their count.
+    pub fn read_bytes(&self, number: u32) -> (*const u8, usize) {
+        let memory = of(&self.files, number);
+        let pointer = if memory.null { std::ptr::null() } else { memory.lent().as_ptr() };
+        (pointer, memory.lent().len())
     }
 
-    /// The first buffer around which a word has changed that was not lent.
+    /// A file as a pointer to bytes that may be written, and their count.
+    pub fn write_bytes(&mut self, number: u32) -> (*mut u8, usize) {
+        of_mut(&mut self.files, number).write()
+    }
+
+    /// The lent words of a buffer, or its bytes as numbers.
+    pub fn words(&self, number: u32) -> Cow<'_, [u32]> {
+        match self.files.iter().find(|memory| memory.number == number) {
+            Some(file) => file.lent().iter().map(|&byte| byte.into()).collect(),
+            None => of(&self.words, number).lent().into(),
+        }
+    }
+
+    /// The first buffer around which something has changed that was not lent.
     pub fn first_overrun(&self) -> Option<u32> {
-        let changed = |memory: &&Memory| {
-            let (before, after) = (&memory.words[..GUARD], &memory.words[GUARD + memory.count..]);
-            before.iter().chain(after).any(|&word| word != GUARD_WORD)
-        };
-        self.buffers.iter().find(changed).map(|memory| memory.number)
-    }
-
-    fn memory(&self, number: u32) -> &Memory {
-        self.buffers.iter().find(|memory| memory.number == number).expect("the call has this buffer")
+        let words = self.words.iter().filter(|memory| memory.is_overrun()).map(|memory| memory.number);
+        let files = self.files.iter().filter(|memory| memory.is_overrun()).map(|memory| memory.number);
+        words.chain(files).min()
     }
 }
 
-impl Memory {
-    fn new(buffer: &Buffer) -> Memory {
-        let guard = [GUARD_WORD; GUARD];
-        let words = [&guard, &buffer.words[..], &guard].concat();
-        Memory { number: buffer.number, count: buffer.words.len(), null: buffer.null, shared: buffer.shared, words }
+fn of<T>(list: &[Memory<T>], number: u32) -> &Memory<T> {
+    list.iter().find(|memory| memory.number == number).expect("the call has this buffer")
+}
+
+fn of_mut<T>(list: &mut [Memory<T>], number: u32) -> &mut Memory<T> {
+    list.iter_mut().find(|memory| memory.number == number).expect("the call has this buffer")
+}
+
+impl<T: Copy + PartialEq> Memory<T> {
+    fn new(buffer: &Buffer, lent: &[T], guard: T) -> Memory<T> {
+        let all = [&[guard; GUARD], lent, &[guard; GUARD]].concat();
+        Memory { number: buffer.number, null: buffer.null, shared: buffer.shared, guard, all }
+    }
+
+    fn lent(&self) -> &[T] {
+        &self.all[GUARD..self.all.len() - GUARD]
+    }
+
+    fn write(&mut self) -> (*mut T, usize) {
+        let pointer = if self.null { std::ptr::null_mut() } else { self.all[GUARD..].as_mut_ptr() };
+        (pointer, self.lent().len())
+    }
+
+    fn is_overrun(&self) -> bool {
+        let after = self.all.len() - GUARD;
+        self.all[..GUARD].iter().chain(&self.all[after..]).any(|found| *found != self.guard)
     }
 }

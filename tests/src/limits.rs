@@ -1,7 +1,9 @@
 //! Every limit from both sides: each P, N and order around its bounds, and nothing else at fault.
 
-use crate::calls::{entry, Call, CALLS};
+use crate::calls::{entry, read_file, write_file, Call, CALLS};
 use crate::case::{Buffer, Case, Holds};
+use crate::layout::Shape;
+use crate::row_file;
 use crate::tally::Tally;
 use crate::trial::trial;
 
@@ -26,7 +28,9 @@ fn primes(tally: &mut Tally) -> Result<(), String> {
     let squares = [46_327 * 46_327, 46_337 * 46_337, 46_339 * 46_339];
     let large = squares.into_iter().chain([65_536, 1 << 31, u32::MAX - 60]).flat_map(around);
     for p in (0..=3_000).chain(large) {
-        check(&entry::CALL, zeros(&entry::CALL, p, 1, &[0, 0]), tally)?;
+        for call in [&entry::CALL, &read_file::CALL, &write_file::CALL] {
+            check(call, zeros(call, p, 1, &[0, 0]), tally)?;
+        }
     }
     Ok(())
 }
@@ -75,6 +79,8 @@ fn zeros(call: &Call, p: u32, n: u32, orders: &[u32]) -> Case {
             Holds::Column => rows,
             Holds::Square => rows * rows,
             Holds::Work => rows * capped(orders[0]).1,
+            Holds::WrittenFile => 4 * (5 + rows * (1 + row(capped(orders[0])))),
+            Holds::ReadFile => return Buffer::new(number, holds, zero_file(p, n, orders[0], rows, capped(orders[0]))),
         };
         let mut words = vec![if number <= 3 { 0 } else { 9 }; count];
         if call.pivots && number == 1 {
@@ -83,5 +89,18 @@ fn zeros(call: &Call, p: u32, n: u32, orders: &[u32]) -> Case {
         Buffer::new(number, holds, words)
     };
     let buffers = call.buffers.iter().map(buffer).collect();
-    Case { p, n, orders, place: (1, 1), c: 0, buffers, faults: vec![] }
+    let mut case = Case { p, n, orders, place: (1, 1), c: 0, buffers, faults: vec![] };
+    if call.reads_file() {
+        case.read_head();
+    }
+    case
+}
+
+/// The bytes of a file of so many zero rows of orders r and s, with the given numbers in its head.
+fn zero_file(p: u32, n: u32, orders: (u32, u32), rows: usize, (r, s): (usize, usize)) -> Vec<u32> {
+    let shape = Shape { n: rows, r, s };
+    let records: Vec<u32> = (1..=rows.max(1) as u32).collect();
+    let mut words = row_file::laid_out(p, shape, &vec![0; shape.table_words()], &records);
+    words[..4].copy_from_slice(&[p, n, orders.0, orders.1]);
+    row_file::bytes(&words)
 }

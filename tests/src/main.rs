@@ -1,7 +1,7 @@
 //! Compares every call of the library, accepted and refused, with a dense program.
 //! `residues_tests` runs everything; `residues_tests CALL NUMBER` runs one random case again, `residues_tests LAW NUMBER` one
 //! trial of a law; without the number, all random cases of the call, or all trials of the law; also `examples`, `limits` and
-//! `together`.
+//! `together`. `residues_tests lister PROGRAM` tests the lister.
 
 mod block;
 mod calls;
@@ -17,8 +17,10 @@ mod laws;
 mod layout;
 mod lent;
 mod limits;
+mod lister;
 mod random;
 mod refusals;
+mod row_file;
 mod swept;
 mod tally;
 mod together;
@@ -42,6 +44,7 @@ fn main() -> ExitCode {
     let mut tally = Tally::default();
     crash::watch();
     let ended = match &arguments[..] {
+        [name, program] if name == "lister" => lister::run(program, &mut tally),
         [name, number] => number.parse().map_err(|_| "no such case".into()).and_then(|number| again(name, number, &mut tally)),
         [name] => all(name, &mut tally),
         _ => everything(&mut tally),
@@ -146,6 +149,7 @@ fn check_dense_program() {
         if case.n <= 30 {
             dense::check_itself(case.table(), case.c);
         }
+        row_file::check_itself(&case.table(), &cases::draw_records(case.n as usize, &mut random));
         let case = cases::sound(&calls::product::CALL, &mut random);
         if case.n <= 30 {
             joined::check_itself(case.pair());

@@ -1,10 +1,11 @@
 //! What was reached: outcomes, traits of cases, and pairs of faults. A class that was never reached is a failure.
 
 use crate::calls::{Call, CALLS};
-use crate::case::{Case, Fault};
+use crate::case::{Buffer, Case, Fault, Holds};
 use crate::faults;
 use crate::layout::Kind;
-use crate::refusals::{Reply, LARGEST_PRIME};
+use crate::refusals::{file_head, orders, size, Reply, LARGEST_PRIME};
+use crate::row_file::FIRST;
 use std::collections::{BTreeMap, BTreeSet};
 
 #[derive(Default)]
@@ -20,7 +21,7 @@ pub struct Tally {
 type Trait = (&'static str, fn(&Case) -> bool);
 
 /// Traits of accepted cases.
-const ACCEPTED: [Trait; 15] = [
+const ACCEPTED: [Trait; 12] = [
     ("N is 1", |case| case.n == 1),
     ("N is 2", |case| case.n == 2),
     ("N is 1,024", |case| case.n == 1024),
@@ -31,11 +32,49 @@ const ACCEPTED: [Trait; 15] = [
     ("r and s are 0", |case| case.orders[0] == (0, 0)),
     ("r is 8", |case| case.orders[0].0 == 8),
     ("s is 8", |case| case.orders[0].1 == 8),
+    ("no surplus", |case| case.buffers.iter().all(|buffer| !has_surplus(case, buffer))),
+    ("surplus in every buffer", |case| {
+        case.buffers.iter().all(|buffer| has_surplus(case, buffer) || buffer.holds == Holds::ReadFile)
+    }),
+];
+
+/// Traits of accepted cases with a table.
+const ACCEPTED_TABLE: [Trait; 3] = [
     ("idle word not below P in row 1", |case| has_high_idle(case, 1, 1)),
     ("idle word not below P in row N", |case| has_high_idle(case, 1, case.n)),
-    ("no surplus", |case| case.buffers.iter().all(|buffer| buffer.words.len() == case.needed(buffer.holds))),
-    ("surplus in every buffer", |case| case.buffers.iter().all(|buffer| buffer.words.len() > case.needed(buffer.holds))),
     ("surplus not below P", |case| has_high_surplus(case, 1)),
+];
+
+/// Traits of accepted cases with a file that is read.
+const ACCEPTED_FILE: [Trait; 6] = [
+    ("P is 0 in the file", |case| case.file_words()[0] == 0),
+    ("records in the order of the rows, N above 3", |case| case.n > 3 && case.file_chain().is_ok_and(|chain| chain.is_sorted())),
+    ("records in another order, N above 3", |case| case.n > 3 && case.file_chain().is_ok_and(|chain| !chain.is_sorted())),
+    ("row N is record 1, N above 3", |case| case.n > 3 && case.file_chain().is_ok_and(|chain| chain.last() == Some(&1))),
+    ("idle word not below P in row 1", |case| has_high_idle_in_file(case, 1)),
+    ("idle word not below P in row N", |case| has_high_idle_in_file(case, case.n as usize)),
+];
+
+/// A trait of a case beside its reply.
+type TraitOfReply = (&'static str, fn(&Case, Reply) -> bool);
+
+/// Traits of refused cases with a file that is read.
+const REFUSED_FILE: [TraitOfReply; 13] = [
+    ("no bytes", |case, reply| reply.number == 9 && case.buffer(6).words.is_empty()),
+    ("19 bytes", |case, reply| reply.number == 9 && case.buffer(6).words.len() == 19),
+    ("a head alone, out of limits", |case, reply| reply.number <= 3 && case.buffer(6).words.len() == 20),
+    ("a byte too few", |case, reply| reply.number == 9 && surplus_of_file(case) == Some(-1)),
+    ("a byte too many", |case, reply| reply.number == 9 && surplus_of_file(case) == Some(1)),
+    ("first record 0", |case, reply| reply.number == 10 && case.file_words()[FIRST] == 0),
+    ("first record N + 1", |case, reply| reply.number == 10 && case.file_words()[FIRST] == case.n + 1),
+    ("chain wrong after one row", |case, reply| reply.number == 10 && reply.row == 1 && case.n > 1),
+    ("chain wrong before the last row", |case, reply| reply.number == 10 && reply.row == case.n - 1 && case.n > 1),
+    ("chain not ended after N rows", |case, reply| reply.number == 10 && reply.row == case.n),
+    ("chain wrong between", |case, reply| reply.number == 10 && reply.row > 1 && reply.row + 1 < case.n),
+    ("the record of a bad word has another number", |case, reply| {
+        reply.number == 5 && case.file_chain().is_ok_and(|chain| chain[reply.row as usize - 1] != reply.row)
+    }),
+    ("P is 0 in the file, bad word", |case, reply| reply.number == 5 && case.file_words()[0] == 0),
 ];
 
 /// Traits of accepted cases with two tables.
@@ -112,6 +151,22 @@ fn has_high_idle(case: &Case, number: u32, k: u32) -> bool {
     case.shape(number as usize - 1).idle_places(k as usize).any(|place| case.buffer(number).words[place] >= case.p)
 }
 
+/// The same of a file's row k.
+fn has_high_idle_in_file(case: &Case, k: usize) -> bool {
+    let rows = case.file_rows();
+    case.shape(0).idle_places(k).any(|place| rows[place] >= case.p)
+}
+
+/// By how many bytes a file is too long, if its head is within limits.
+fn surplus_of_file(case: &Case) -> Option<isize> {
+    let within = file_head(case).is_none() && size(case).is_none() && orders(case).is_none();
+    within.then(|| case.buffer(6).words.len() as isize - case.needed(Holds::ReadFile) as isize)
+}
+
+fn has_surplus(case: &Case, buffer: &Buffer) -> bool {
+    buffer.words.len() > case.needed(buffer.holds)
+}
+
 fn has_high_surplus(case: &Case, number: u32) -> bool {
     let buffer = case.buffer(number);
     buffer.words[case.needed(buffer.holds)..].iter().any(|&word| word >= case.p)
@@ -124,6 +179,10 @@ impl Tally {
         *self.outcomes.entry((call.name, reply.number, reply.buffer)).or_default() += 1;
         let lists = if reply.number == 0 { accepted(call) } else { vec![&REFUSED[..]] };
         lists.concat().iter().filter(|(_, holds)| holds(case)).for_each(|&(name, _)| self.count(call, name));
+        if reply.number != 0 && call.reads_file() {
+            let held = REFUSED_FILE.iter().filter(|(_, holds)| holds(case, reply));
+            held.for_each(|&(name, _)| self.count(call, name));
+        }
         if reply.number == 5 && reply.row == 1 {
             self.count(call, BAD_FIRST);
         }
@@ -200,6 +259,9 @@ impl Tally {
 fn traits_of(call: &Call) -> Vec<&'static str> {
     let mut names: Vec<&str> = accepted(call).concat().iter().chain(&REFUSED).map(|&(name, _)| name).collect();
     names.extend([BAD_FIRST, BAD_LAST]);
+    if call.reads_file() {
+        names.extend(REFUSED_FILE.map(|(name, _)| name));
+    }
     if call.pivots {
         names.extend([ZERO_FIRST, ZERO_LAST, ZERO_BETWEEN, ZERO_REGULAR]);
     }
@@ -210,7 +272,7 @@ fn traits_of(call: &Call) -> Vec<&'static str> {
 }
 
 fn accepted(call: &Call) -> Vec<&'static [Trait]> {
-    let mut lists: Vec<&[Trait]> = vec![&ACCEPTED];
+    let mut lists: Vec<&[Trait]> = vec![&ACCEPTED, if call.reads_file() { &ACCEPTED_FILE } else { &ACCEPTED_TABLE }];
     if call.tables == 2 {
         lists.push(&ACCEPTED_TWO);
     }

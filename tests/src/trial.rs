@@ -5,6 +5,7 @@ use crate::case::{Buffer, Case, Holds};
 use crate::dense::Table;
 use crate::lent::Lent;
 use crate::refusals::{orders, size, Reply};
+use crate::row_file;
 
 /// The first refusal whose cause holds, with nothing written, else the dense answer.
 pub fn owed(call: &Call, case: &Case) -> Answer {
@@ -14,7 +15,7 @@ pub fn owed(call: &Call, case: &Case) -> Answer {
     }
 }
 
-/// Runs a case and compares the reply, every word of every buffer, and the meaning of the result.
+/// Runs a case and compares the reply, every word and byte of every buffer, and the meaning of the result.
 pub fn trial(call: &Call, case: &Case) -> Result<Reply, String> {
     Ok(ended(call, case)?.0)
 }
@@ -31,7 +32,7 @@ pub fn ended(call: &Call, case: &Case) -> Result<(Reply, Lent), String> {
 pub fn only_accepted(call: &Call, case: &Case) -> Result<Vec<u32>, String> {
     let mut lent = Lent::new(case);
     match (call.run)(case, &mut lent) {
-        0 => Ok(lent.words(5).to_vec()),
+        0 => Ok(lent.words(5).into_owned()),
         reply => Err(format!("{} is not accepted: {}", call.name, Reply::unpacked(reply))),
     }
 }
@@ -43,7 +44,7 @@ fn meaning(call: &Call, case: &Case, owed: &Answer, lent: &Lent) -> Result<(), S
     }
     let result = case.buffers.iter().find(|buffer| buffer.number == 5);
     match result.and_then(|buffer| case.table_shape(buffer.holds)) {
-        Some(shape) => (call.meaning)(case, Table { p: case.p, shape, words: lent.words(5) }),
+        Some(shape) => (call.meaning)(case, Table { p: case.p, shape, words: &lent.words(5) }),
         None => Ok(()),
     }
 }
@@ -60,7 +61,7 @@ pub fn compare(call: &Call, case: &Case, owed: &Answer) -> Result<Lent, String> 
     account += &format!("\n  reply owed {}, came {}", owed.reply, Reply::unpacked(reply));
     differences.iter().for_each(|line| account += line);
     if let Some(number) = lent.first_overrun() {
-        account += &format!("\n  words around buffer {number}, which are not lent, have changed");
+        account += &format!("\n  memory around buffer {number}, which is not lent, has changed");
     }
     Err(account)
 }
@@ -74,7 +75,16 @@ fn difference(case: &Case, buffer: &Buffer, owed: &Answer, lent: &Lent) -> Optio
     let found = lent.words(buffer.number);
     let place = (0..expected.len()).find(|&place| expected[place] != found[place])?;
     let whose = owner(case, buffer, place);
-    Some(format!("\n  buffer {} word {place}{whose}: owed {}, came {}", buffer.number, expected[place], found[place]))
+    let unit = unit(buffer);
+    Some(format!("\n  buffer {} {unit} {place}{whose}: owed {}, came {}", buffer.number, expected[place], found[place]))
+}
+
+fn unit(buffer: &Buffer) -> &'static str {
+    if buffer.holds.is_file() {
+        "byte"
+    } else {
+        "word"
+    }
 }
 
 /// Where a word lies, in terms of rows.
@@ -91,6 +101,10 @@ fn owner(case: &Case, buffer: &Buffer, place: usize) -> String {
         }
         Holds::Column => format!(" (row {})", place + 1),
         Holds::Work => format!(" (v of row {})", place / case.shape(0).s + 1),
+        Holds::WrittenFile | Holds::ReadFile => match (place / 4).checked_sub(row_file::HEAD) {
+            None => " (head)".into(),
+            Some(word) => format!(" (record {})", word / (1 + case.shape(0).row_words()) + 1),
+        },
         Holds::Square => format!(" (entry {}, {})", place / case.n as usize + 1, place % case.n as usize + 1),
     }
 }
@@ -109,7 +123,8 @@ fn describe(case: &Case) -> String {
             ""
         };
         let more = if buffer.words.len() > 200 { " .." } else { "" };
-        text += &format!("\n  buffer {}, {} words{note}: {}{more}", buffer.number, buffer.words.len(), shown.join(" "));
+        let (count, unit) = (buffer.words.len(), unit(buffer));
+        text += &format!("\n  buffer {}, {count} {unit}s{note}: {}{more}", buffer.number, shown.join(" "));
     }
     text
 }

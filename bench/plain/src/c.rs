@@ -16,19 +16,19 @@ fn done(answer: Result<(), Refusal>) -> u64 {
     packed(answer.map(|()| 0))
 }
 
-unsafe fn read<'t>(words: *const u32, count: usize) -> &'t [u32] {
+unsafe fn read<'t, T>(lent: *const T, count: usize) -> &'t [T] {
     if count == 0 {
         &[]
     } else {
-        from_raw_parts(words, count)
+        from_raw_parts(lent, count)
     }
 }
 
-unsafe fn written<'t>(words: *mut u32, count: usize) -> &'t mut [u32] {
+unsafe fn written<'t, T>(lent: *mut T, count: usize) -> &'t mut [T] {
     if count == 0 {
         &mut []
     } else {
-        from_raw_parts_mut(words, count)
+        from_raw_parts_mut(lent, count)
     }
 }
 
@@ -190,6 +190,25 @@ pub unsafe extern "C" fn residues_inverse(
     result_len: usize,
 ) -> u64 {
     done(crate::inverse(p, n, r, s, read(table, table_len), written(result, result_len)))
+}
+
+#[no_mangle]
+pub unsafe extern "C" fn residues_read_file(file: *const u8, file_len: usize, result: *mut u32, result_len: usize) -> u64 {
+    packed(crate::read_file(read(file, file_len), written(result, result_len)))
+}
+
+#[no_mangle]
+pub unsafe extern "C" fn residues_write_file(
+    p: u32,
+    n: u32,
+    r: u32,
+    s: u32,
+    table: *const u32,
+    table_len: usize,
+    file: *mut u8,
+    file_len: usize,
+) -> u64 {
+    done(crate::write_file(p, n, r, s, read(table, table_len), written(file, file_len)))
 }
 
 extern "C" {

@@ -23,9 +23,14 @@ pub fn refuse(cause: bool, number: u32, buffer: u32, row: u32) -> Result<(), Ref
 
 /// The shape of the only table of a call.
 pub fn shape(p: u32, n: u32, r: u32, s: u32) -> Result<Shape, Refusal> {
+    shape_in(1, p, n, r, s)
+}
+
+/// The shape of a table whose orders belong to the given buffer.
+pub fn shape_in(buffer: u32, p: u32, n: u32, r: u32, s: u32) -> Result<Shape, Refusal> {
     refuse(!is_prime(p), 1, 0, 0)?;
     refuse(!(1..=LARGEST_SIZE).contains(&n), 2, 0, 0)?;
-    refuse(is_above(r) || is_above(s), 3, 1, 0)?;
+    refuse(is_above(r) || is_above(s), 3, buffer, 0)?;
     Ok(Shape { p, n: n as usize, r: r as usize, s: s as usize })
 }
 
@@ -56,8 +61,8 @@ fn is_above(order: u32) -> bool {
     order > LARGEST_ORDER as u32
 }
 
-pub fn length(buffer: u32, words: &[u32], needed: usize) -> Result<(), Refusal> {
-    refuse(words.len() < needed, 4, buffer, 0)
+pub fn length<T>(buffer: u32, lent: &[T], needed: usize) -> Result<(), Refusal> {
+    refuse(lent.len() < needed, 4, buffer, 0)
 }
 
 /// A table's words that are used, row by row.
@@ -71,7 +76,8 @@ pub fn column(buffer: u32, shape: Shape, words: &[u32]) -> Result<(), Refusal> {
     first_bad(buffer, words[..shape.n].iter().position(|&x| x >= shape.p))
 }
 
-fn first_bad(buffer: u32, row: Option<usize>) -> Result<(), Refusal> {
+/// The first row, from 0, with a word that is no residue.
+pub fn first_bad(buffer: u32, row: Option<usize>) -> Result<(), Refusal> {
     row.map_or(Ok(()), |k| refuse(true, 5, buffer, k as u32 + 1))
 }
 

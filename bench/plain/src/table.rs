@@ -37,6 +37,22 @@ impl Shape {
         RowMut::of(&mut table[k * w..][..w], self.r, self.s)
     }
 
+    /// The places in row k, from 0, of the words that are used.
+    pub fn used(self, k: usize) -> impl Iterator<Item = usize> {
+        let (r, s) = (self.r, self.s);
+        let (above, below) = (!self.is_first(k), !self.is_last(k));
+        let through = above && below;
+        let mut end = 0;
+        [(1, true), (r, above), (r * r, through), (r, below), (s, below), (s * s, through), (s, above)]
+            .map(|(count, used)| {
+                let start = end;
+                end += count;
+                start..if used { end } else { start }
+            })
+            .into_iter()
+            .flatten()
+    }
+
     pub fn is_first(self, k: usize) -> bool {
         k == 0
     }

@@ -13,11 +13,13 @@ pub mod inverse;
 pub mod matrix;
 pub mod multiple;
 pub mod product;
+pub mod read_file;
 pub mod solve;
 pub mod sum;
 pub mod transpose;
+pub mod write_file;
 
-pub const CALLS: [&Call; 10] = [
+pub const CALLS: [&Call; 12] = [
     &entry::CALL,
     &matrix::CALL,
     &apply::CALL,
@@ -28,6 +30,8 @@ pub const CALLS: [&Call; 10] = [
     &product::CALL,
     &solve::CALL,
     &inverse::CALL,
+    &read_file::CALL,
+    &write_file::CALL,
 ];
 
 /// What a call takes beside P, N and the orders.
@@ -50,7 +54,7 @@ pub struct Call {
     pub number: Number,
     /// The buffers by ascending number, and what each has room for.
     pub buffers: &'static [(u32, Holds)],
-    /// The checks, in the order of the table of refusals.
+    /// The checks, in the order of the table of refusals; reading a file has an order of its own.
     pub checks: &'static [Check],
     /// The numbers that must be reached, each with the buffer beside it.
     pub outcomes: &'static [(u32, u32)],
@@ -62,12 +66,19 @@ pub struct Call {
     pub run: fn(&Case, &mut Lent) -> u64,
 }
 
+impl Call {
+    /// Whether P, N and the orders stand in a file.
+    pub fn reads_file(&self) -> bool {
+        self.buffers.iter().any(|&(_, holds)| holds == Holds::ReadFile)
+    }
+}
+
 /// For calls whose words are all that is owed.
 pub fn no_more(_: &Case, _: Table) -> Result<(), String> {
     Ok(())
 }
 
-/// What is owed: the reply, and the words that are left at the beginning of the buffers it writes.
+/// What is owed: the reply, and the words, or bytes, that are left at the beginning of the buffers it writes.
 #[derive(Debug)]
 pub struct Answer {
     pub reply: Reply,
