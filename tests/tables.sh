@@ -1,0 +1,107 @@
+# A part of tests/run: the library's answers on tables as printed, judged by a program that shares nothing with the library.
+# What it must find wrong is tried too: answers from tables that are misread on purpose, and answers with a fault planted.
+
+tables="$here/tables"
+answers="$build/answers"
+dense_check="$build/dense_check"
+
+# Answers a question and judges the answer: judge OPTION CALL FILES..; OPTION is - for a table read as it is. A table that the
+# library writes is judged twice, as print and as bytes.
+judge() {
+    local option=$1 call=$2 misreading=() written=()
+    shift 2
+    [ "$option" = - ] || misreading=("$option")
+    case $call in product | inverse) written=("$build/answer.rows") ;; esac
+    rm -f "$build/answer.rows"
+    "${within[@]}" "$answers" "${misreading[@]}" "$call" "$@" "${written[@]}" > "$build/answer" || return 3
+    "${within[@]}" "$dense_check" "$call" "$@" "$build/answer" || return
+    [ ! -e "$build/answer.rows" ] || "${within[@]}" "$dense_check" "$call" "$@" "$build/answer.rows"
+}
+
+# The answer is wrong and dense_check says so: status 1 and no other.
+owe_wrong() {
+    local status=0
+    "$@" > "$build/said" || status=$?
+    if [ $status -ne 1 ] || ! grep -q '^wrong: ' "$build/said"; then
+        echo "not found wrong (status $status): $*"
+        exit 1
+    fi
+    found=$((found + 1))
+}
+
+# The same where the misread table passes the library and the check that applies it.
+owe_wrong_unnoticed() {
+    owe_wrong "$@"
+    if grep -q refused "$build/answer"; then
+        echo "refused, where the misreading should pass unnoticed: $*"
+        exit 1
+    fi
+}
+
+# The questions that each table and pair of tables is put to.
+every_question() {
+    local name pair
+    for name in M spline two two_right house house_right many many_right one; do
+        "$@" matrix "$tables/$name.txt"
+        "$@" solution "$tables/$name.txt" "$tables/$name.column"
+        "$@" inverse "$tables/$name.txt"
+    done
+    for pair in "M M" "spline spline" "two two_right" "house house_right" "many many_right" "one one"; do
+        "$@" product "$tables/${pair% *}.txt" "$tables/${pair#* }.txt"
+    done
+}
+
+owe_right() {
+    judge - "$@" || { echo "found wrong: $*"; exit 1; }
+    right=$((right + 1))
+}
+
+# A table of one row has no other to be taken for it.
+owe_misreadings_wrong() {
+    [ "$(basename "$2" .txt)" != one ] || return 0
+    owe_wrong judge --heading "$@"
+    owe_wrong judge --file-order "$@"
+}
+
+# The misreadings of tables whose idle words are residues, so that nothing is refused: each solution passes its own check.
+owe_unnoticed_misreadings_wrong() {
+    local name option
+    for name in spline many many_right; do
+        for option in --heading --file-order; do
+            owe_wrong_unnoticed judge "$option" matrix "$tables/$name.txt"
+            owe_wrong_unnoticed judge "$option" solution "$tables/$name.txt" "$tables/$name.column"
+            owe_wrong_unnoticed judge "$option" inverse "$tables/$name.txt"
+        done
+    done
+}
+
+# Faults planted in right answers: factors exchanged, a word off by one, a refusal where there is none, the other way round, a
+# wrong row beside it, an idle word that is not 0.
+owe_planted_wrong() {
+    local m="$tables/M.txt" right="$tables/many_right.txt"
+    judge - product "$tables/many.txt" "$right"
+    owe_wrong "$dense_check" product "$right" "$tables/many.txt" "$build/answer"
+    echo "1 2 4" > "$build/answer"
+    owe_wrong "$dense_check" solution "$m" "$tables/M.column" "$build/answer"
+    echo "1 2" > "$build/answer"
+    owe_wrong "$dense_check" solution "$m" "$tables/M.column" "$build/answer"
+    echo "refused 7 1 1" > "$build/answer"
+    owe_wrong "$dense_check" inverse "$m" "$build/answer"
+    owe_wrong "$dense_check" inverse "$tables/two_right.txt" "$build/answer"
+    owe_wrong "$dense_check" inverse "$tables/two_right.txt" "$tables/two_right.txt"
+    sed 's/^2 3 0 0 2 1 0 0;/2 3 0 0 2 1 0 1;/' "$tables/M.inverse" > "$build/answer"
+    owe_wrong "$dense_check" inverse "$m" "$build/answer"
+    grep -q 'an idle word' "$build/said"
+}
+
+echo "== tables as printed: the library's answers, judged densely"
+"${c99[@]}" "$here/c/answers.c" "$lib/libresidues.a" -o "$build/answers"
+gcc -std=c99 -O1 -g "${warnings[@]}" "$here/c/dense_check.c" -o "$build/dense_check"
+right=0
+every_question owe_right
+"$dense_check" inverse "$here/../examples/M.rows" "$tables/M.inverse"
+found=0
+every_question owe_misreadings_wrong
+owe_unnoticed_misreadings_wrong
+owe_planted_wrong
+echo "$right right answers; $found wrong ones, each found wrong"
