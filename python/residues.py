@@ -1,0 +1,258 @@
+"""Calls the library residues from Python: exact linear algebra modulo a prime on matrices given by generators.
+
+One function a call, by the names of the header residues.h. Numbers are whole numbers from 0 to 4294967295; tables and columns are
+sequences of such numbers, files are bytes. A table of n rows, lower order r and upper order s has n * row_words(r, s) words; a row
+holds d, p, a, q, g, b, h, and row 1 is a row like the others. What is returned is fresh; what is handed in stays as it was.
+
+A refusal of the library is raised as Refused, an argument that cannot be handed over as BadArgument. The shared library is looked
+for when it is first needed: by the name given to load, by the environment variable RESIDUES_LIBRARY, under the prefix in which this
+file is installed, and by the system's loader.
+"""
+
+import array
+import collections
+import ctypes
+import ctypes.util
+import operator
+import os
+import struct
+
+HOUSE_PRIME = 2147483647
+LARGEST_SIZE = 1024
+LARGEST_ORDER = 8
+HEAD_BYTES = 20
+
+# The names of a refusal's number, as in the header, and what they mean.
+CAUSES = (
+    ("OK", "accepted"),
+    ("BAD_PRIME", "p is no prime from 2 to 2147483647"),
+    ("BAD_SIZE", "n is not 1 to 1024"),
+    ("BAD_ORDER", "an order is above 8"),
+    ("SHORT_BUFFER", "a buffer is too short"),
+    ("BAD_WORD", "a word is not below p"),
+    ("BAD_ORDER_SUM", "the orders add up to more than 8"),
+    ("ZERO_PIVOT", "a leading corner is singular"),
+    ("BAD_PLACE", "i or j is not 1 to n"),
+    ("BAD_LENGTH", "the file is under 20 bytes, or of the wrong length"),
+    ("BAD_CHAIN", "the file's chain is wrong after this row"),
+)
+BUFFERS = ("no buffer", "the table", "the second table", "the column", "work", "the result", "the file")
+
+_CALLS = ("entry", "matrix", "apply", "apply_transpose", "transpose", "multiple", "sum", "product", "solve", "inverse",
+          "read_file", "write_file")
+
+Table = collections.namedtuple("Table", "p n r s words")
+Head = collections.namedtuple("Head", "p n r s first")
+
+
+class Refused(ValueError):
+    """A refusal of the library: its number and name, the buffer and the row beside it."""
+
+    def __init__(self, number, buffer, row):
+        self.number, self.buffer, self.row = number, buffer, row
+        self.name, cause = CAUSES[number]
+        super().__init__("refused %d, %s: %s (%s, row %d)" % (number, self.name, cause, BUFFERS[buffer], row))
+
+
+class BadArgument(ValueError):
+    """An argument that cannot be handed to the library: no whole number from 0 to 4294967295, no sequence of such, no bytes."""
+
+
+# ---- the shared library ----
+
+_library = None
+
+
+def load(path=None):
+    """Loads the shared library from the path, or from the first place where it is found. Later calls go to it."""
+    global _library
+    library = ctypes.CDLL(path or _found())
+    for name in _CALLS:
+        getattr(library, "residues_" + name).restype = ctypes.c_uint64
+    _library = library
+
+
+def _found():
+    here = os.path.dirname(os.path.abspath(__file__))
+    installed = os.path.join(here, "..", "..", "..", "lib", "libresidues.so.1")
+    named = os.environ.get("RESIDUES_LIBRARY")
+    if named:
+        return named
+    return installed if os.path.exists(installed) else ctypes.util.find_library("residues") or "libresidues.so.1"
+
+
+def _run(call, numbers, *buffers):
+    """Hands the numbers and then the buffers over; returns the reply's value."""
+    arguments = [ctypes.c_uint32(number) for number in numbers]
+    for buffer in buffers:
+        arguments += [buffer, ctypes.c_size_t(len(buffer))]
+    if _library is None:
+        load()
+    reply = getattr(_library, "residues_" + call)(*arguments)
+    if reply & 255:
+        raise Refused(reply & 255, reply >> 8 & 255, reply >> 16 & 65535)
+    return reply >> 32
+
+
+# ---- arguments ----
+
+
+def _number(name, number):
+    try:
+        word = operator.index(number)
+    except TypeError:
+        word = -1
+    if not 0 <= word <= 0xFFFFFFFF:
+        raise BadArgument("%s is %r, no whole number from 0 to 4294967295" % (name, number))
+    return word
+
+
+def _numbers(**named):
+    return [_number(name, number) for name, number in named.items()]
+
+
+def _words(name, words):
+    """The words as a buffer for the library."""
+    try:
+        listed = list(words)
+    except TypeError:
+        raise BadArgument("%s is %r, no sequence of words" % (name, words)) from None
+    try:
+        checked = array.array("I", listed)
+    except (TypeError, OverflowError):
+        checked = array.array("I", [_number("%s[%d]" % (name, place), word) for place, word in enumerate(listed)])
+    return (ctypes.c_uint32 * len(checked)).from_buffer(checked)
+
+
+def _bytes(name, data):
+    if not isinstance(data, (bytes, bytearray, memoryview)):
+        raise BadArgument("%s is %r, no bytes" % (name, type(data)))
+    data = bytes(data)
+    return (ctypes.c_uint8 * len(data)).from_buffer_copy(data)
+
+
+def _blank(count):
+    return (ctypes.c_uint32 * count)()
+
+
+def _limited(n, r, s):
+    """For the lengths of what is written: a number above its limit is refused before any length is looked at."""
+    return min(n, LARGEST_SIZE), min(r, LARGEST_ORDER), min(s, LARGEST_ORDER)
+
+
+# ---- lengths, and the head of a file ----
+
+
+def row_words(r, s):
+    """The words of a row."""
+    return 1 + 2 * r + r * r + 2 * s + s * s
+
+
+def table_words(n, r, s):
+    """The words of a table of n rows."""
+    return n * row_words(r, s)
+
+
+def file_bytes(n, r, s):
+    """The bytes of a row file of n rows."""
+    return 4 * (5 + n * (1 + row_words(r, s)))
+
+
+def file_head(file):
+    """The head of a row file: p (2147483647 where the file has 0), n, r, s and the number of the first record, within limits or not."""
+    if len(_bytes("file", file)) < HEAD_BYTES:
+        raise Refused(9, 6, 0)
+    p, n, r, s, first = struct.unpack_from("<5I", bytes(file))
+    return Head(p or HOUSE_PRIME, n, r, s, first)
+
+
+# ---- the calls ----
+
+
+def entry(p, n, r, s, i, j, table):
+    """The entry at (i, j), from 1."""
+    return _run("entry", _numbers(p=p, n=n, r=r, s=s, i=i, j=j), _words("table", table))
+
+
+def matrix(p, n, r, s, table):
+    """The whole matrix, as a list of n rows."""
+    numbers = _numbers(p=p, n=n, r=r, s=s)
+    rows = min(n, LARGEST_SIZE)
+    result = _blank(rows * rows)
+    _run("matrix", numbers, _words("table", table), result)
+    return [result[k * rows:(k + 1) * rows] for k in range(rows)]
+
+
+def apply(p, n, r, s, table, column):
+    """The table times the column."""
+    return _column_call("apply", _numbers(p=p, n=n, r=r, s=s), table, column)
+
+
+def apply_transpose(p, n, r, s, table, column):
+    """The transposed table times the column."""
+    return _column_call("apply_transpose", _numbers(p=p, n=n, r=r, s=s), table, column)
+
+
+def transpose(p, n, r, s, table):
+    """The transposed table, of orders s and r."""
+    return _table_call("transpose", _numbers(p=p, n=n, r=r, s=s), (n, s, r), table=table)
+
+
+def multiple(p, n, r, s, c, table):
+    """The table of c times the matrix."""
+    return _table_call("multiple", _numbers(p=p, n=n, r=r, s=s, c=c), (n, r, s), table=table)
+
+
+def sum(p, n, r1, s1, r2, s2, first, second):
+    """The table of the sum, of orders r1 + r2 and s1 + s2."""
+    numbers = _numbers(p=p, n=n, r1=r1, s1=s1, r2=r2, s2=s2)
+    return _table_call("sum", numbers, (n, r1 + r2, s1 + s2), first=first, second=second)
+
+
+def product(p, n, r1, s1, r2, s2, first, second):
+    """The table of the first matrix times the second, of orders r1 + r2 and s1 + s2."""
+    numbers = _numbers(p=p, n=n, r1=r1, s1=s1, r2=r2, s2=s2)
+    return _table_call("product", numbers, (n, r1 + r2, s1 + s2), first=first, second=second)
+
+
+def solve(p, n, r, s, table, column):
+    """The column that the table sends to the given one."""
+    numbers = _numbers(p=p, n=n, r=r, s=s)
+    work = _blank(min(n, LARGEST_SIZE) * min(s, LARGEST_ORDER))
+    return _column_call("solve", numbers, table, column, work)
+
+
+def inverse(p, n, r, s, table):
+    """The table of the inverse matrix, of the same orders."""
+    return _table_call("inverse", _numbers(p=p, n=n, r=r, s=s), (n, r, s), table=table)
+
+
+def read_file(file):
+    """The table of a row file, with its prime, size and orders."""
+    lent = _bytes("file", file)
+    head = file_head(file) if len(lent) >= HEAD_BYTES else Head(0, 0, 0, 0, 0)
+    result = _blank(table_words(*_limited(head.n, head.r, head.s)))
+    p = _run("read_file", [], lent, result)
+    return Table(p, head.n, head.r, head.s, list(result))
+
+
+def write_file(p, n, r, s, table):
+    """The row file of the table, as bytes."""
+    numbers = _numbers(p=p, n=n, r=r, s=s)
+    file = (ctypes.c_uint8 * file_bytes(*_limited(n, r, s)))()
+    _run("write_file", numbers, _words("table", table), file)
+    return bytes(file)
+
+
+def _column_call(call, numbers, table, column, *work):
+    """A call that writes a column."""
+    result = _blank(min(numbers[1], LARGEST_SIZE))
+    _run(call, numbers, _words("table", table), _words("column", column), *work, result)
+    return list(result)
+
+
+def _table_call(call, numbers, shape, **tables):
+    """A call that writes a table of the shape: n, r, s."""
+    result = _blank(table_words(*_limited(*shape)))
+    _run(call, numbers, *[_words(name, words) for name, words in tables.items()], result)
+    return list(result)
