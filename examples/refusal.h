@@ -22,7 +22,9 @@ static inline int accepted(const char *call, uint64_t reply)
         "the file is under 20 bytes, or of the wrong length",
         "the file's chain is wrong after this row",
     };
-    static const char *const buffers[] = {"no buffer", "the table", "the second table", "the column", "work", "the result", "the file"};
+    static const char *const buffers[] = {
+        "no buffer", "the table", "the second table", "the column", "work", "the result", "the file",
+    };
     const uint32_t number = residues_number(reply);
     if (number == RESIDUES_OK) {
         return 1;

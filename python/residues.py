@@ -159,7 +159,7 @@ def file_bytes(n, r, s):
 
 
 def file_head(file):
-    """The head of a row file: p (2147483647 where the file has 0), n, r, s and the number of the first record, within limits or not."""
+    """The head of a row file: p (2147483647 where the file has 0), n, r, s and the first record's number, within limits or not."""
     if len(_bytes("file", file)) < HEAD_BYTES:
         raise Refused(9, 6, 0)
     p, n, r, s, first = struct.unpack_from("<5I", bytes(file))
@@ -230,7 +230,7 @@ def inverse(p, n, r, s, table):
 def read_file(file):
     """The table of a row file, with its prime, size and orders."""
     lent = _bytes("file", file)
-    head = file_head(file) if len(lent) >= HEAD_BYTES else Head(0, 0, 0, 0, 0)
+    head = file_head(file)
     result = _blank(table_words(*_limited(head.n, head.r, head.s)))
     p = _run("read_file", [], lent, result)
     return Table(p, head.n, head.r, head.s, list(result))

@@ -1,6 +1,6 @@
 # A part of tests/run: installs the built library and the lister, uses what was installed, and takes it away again.
 
-# A prefix with a blank in it, from a folder that it is relative to, beside a folder and a file that were there before.
+# A prefix with a blank in it, from a folder that it is relative to, where an empty folder and a file were before.
 installed="$build/to install"
 
 owe_same() {
@@ -9,7 +9,7 @@ owe_same() {
 
 install_there() {
     rm -rf "$installed"
-    mkdir -p "$installed/some prefix/include"
+    mkdir -p "$installed/some prefix/include" "$installed/some prefix/bin"
     echo kept > "$installed/some prefix/include/other.h"
     (cd "$installed" && "$here/../install" --built "$lib/libresidues.a" "$lister" "some prefix" > "$build/printed")
     # Again, over itself.
@@ -23,7 +23,8 @@ use_pkg_config() {
         return
     fi
     flags=$(PKG_CONFIG_PATH="$installed/some prefix/lib/pkgconfig" pkg-config --cflags --libs residues)
-    eval "cc $flags \"\$here/../examples/apply.c\" -o \"\$build/apply-shared\""
+    eval "cc $flags \"\$here/../examples/apply.c\" -o \"\$build/apply-shared\"" || { echo "pkg-config says: $flags"; exit 1; }
+    readelf -d "$build/apply-shared" | grep 'NEEDED.*\[libresidues\.so\.1\]' > "$build/printed"
     owe_same "4 4 5" "$(LD_LIBRARY_PATH="$installed/some prefix/lib" "$build/apply-shared")"
 }
 
@@ -43,9 +44,12 @@ lister=$(cd "$(dirname "$3")" && pwd)/$(basename "$3")
 install_there
 use_pkg_config
 use_python
+for page in man1/residues-lister.1 man3/residues.3; do
+    cmp "$here/../docs/man/${page#*/}" "$installed/some prefix/share/man/$page"
+done
 "${within[@]}" "$installed/some prefix/bin/residues-lister" < "$here/../examples/M.rows" > "$build/printed"
 owe_same regular "$(tail -n 1 "$build/printed")"
 (cd "$installed" && "$here/../install" --remove "some prefix")
 left=$(cd "$installed" && find . | sort | tr '\n' ' ')
-owe_same ". ./some prefix ./some prefix/include ./some prefix/include/other.h " "$left"
+owe_same ". ./some prefix ./some prefix/bin ./some prefix/include ./some prefix/include/other.h " "$left"
 echo "installed, used, and taken away"

@@ -75,23 +75,49 @@ owe_unnoticed_misreadings_wrong() {
     done
 }
 
-# Faults planted in right answers: factors exchanged, a word off by one, a refusal where there is none, the other way round, a
-# wrong row beside it, an idle word that is not 0.
+# Finds the answer wrong that standard input has: owe_planted_wrong CALL FILES.., the right one being known.
 owe_planted_wrong() {
-    local m="$tables/M.txt" right="$tables/many_right.txt"
-    judge - product "$tables/many.txt" "$right"
-    owe_wrong "$dense_check" product "$right" "$tables/many.txt" "$build/answer"
-    echo "1 2 4" > "$build/answer"
-    owe_wrong "$dense_check" solution "$m" "$tables/M.column" "$build/answer"
-    echo "1 2" > "$build/answer"
-    owe_wrong "$dense_check" solution "$m" "$tables/M.column" "$build/answer"
-    echo "refused 7 1 1" > "$build/answer"
-    owe_wrong "$dense_check" inverse "$m" "$build/answer"
-    owe_wrong "$dense_check" inverse "$tables/two_right.txt" "$build/answer"
-    owe_wrong "$dense_check" inverse "$tables/two_right.txt" "$tables/two_right.txt"
-    sed 's/^2 3 0 0 2 1 0 0;/2 3 0 0 2 1 0 1;/' "$tables/M.inverse" > "$build/answer"
-    owe_wrong "$dense_check" inverse "$m" "$build/answer"
-    grep -q 'an idle word' "$build/said"
+    cat > "$build/answer"
+    owe_wrong "$dense_check" "$@" "$build/answer"
+}
+
+# Faults planted in right answers: a word off by one, the same residue by a larger word, too few words, too many, a refusal where
+# none is due, the wrong row beside one, none where one is due (also where the matrix is regular), factors exchanged, other orders.
+plant_faults() {
+    local m="$tables/M.txt" singular="$tables/two_right.txt" answer
+    for answer in "1 2 4" "8 2 3" "1 2" "1 2 3 0" "refused 7 1 3"; do
+        owe_planted_wrong solution "$m" "$tables/M.column" <<< "$answer"
+    done
+    owe_planted_wrong inverse "$singular" <<< "refused 7 1 1"
+    owe_planted_wrong inverse "$singular" < "$singular"
+    echo "7 2 1 1 1; 2 0 0 0 1 1 0 0; 0 0 1 0 0 0 0 1" > "$build/exchange"
+    owe_planted_wrong inverse "$build/exchange" < "$build/exchange"
+    judge - product "$tables/many.txt" "$tables/many_right.txt"
+    owe_wrong "$dense_check" product "$tables/many_right.txt" "$tables/many.txt" "$build/answer"
+    owe_planted_wrong product "$tables/one.txt" "$tables/one.txt" <<< "5 1 0 0 1; 0 4"
+    plant_in_words
+}
+
+# In the scope paper's inverse of M: each idle word made 1, and a d of 3 made 10, which is the same modulo 7.
+plant_in_words() {
+    local words place
+    read -r -d '' -a words < "$tables/M.inverse" || true
+    for place in 7 8 11 12 24 25 26 27; do
+        (words[place]=1 && echo "${words[@]}") > "$build/planted"
+        owe_planted_wrong inverse "$tables/M.txt" < "$build/planted"
+        grep -q "an idle word" "$build/said" || { echo "word $place is taken for one that is used"; exit 1; }
+    done
+    (words[6]=10 && echo "${words[@]}") > "$build/planted"
+    owe_planted_wrong inverse "$tables/M.txt" < "$build/planted"
+}
+
+# The example with files on a table of unequal orders: transposed twice it is what it was, and its inverse is one.
+check_files_example() {
+    judge - inverse "$tables/many.txt"
+    "${within[@]}" "$build/files" "$build/transposed" "$build/inverse" "$build/answer.rows" > "$build/printed"
+    "$dense_check" inverse "$build/answer.rows" "$build/inverse"
+    "${within[@]}" "$build/files" "$build/again" "$build/inverse" "$build/transposed" > "$build/printed"
+    cmp "$build/answer.rows" "$build/again"
 }
 
 echo "== tables as printed: the library's answers, judged densely"
@@ -103,5 +129,6 @@ every_question owe_right
 found=0
 every_question owe_misreadings_wrong
 owe_unnoticed_misreadings_wrong
-owe_planted_wrong
+plant_faults
+check_files_example
 echo "$right right answers; $found wrong ones, each found wrong"
