@@ -24,7 +24,8 @@ use_pkg_config() {
     fi
     flags=$(PKG_CONFIG_PATH="$installed/some prefix/lib/pkgconfig" pkg-config --cflags --libs residues)
     eval "cc $flags \"\$here/../examples/apply.c\" -o \"\$build/apply-shared\"" || { echo "pkg-config says: $flags"; exit 1; }
-    readelf -d "$build/apply-shared" | grep 'NEEDED.*\[libresidues\.so\.1\]' > "$build/printed"
+    readelf -d "$build/apply-shared" | grep 'NEEDED.*\[libresidues\.so\.1\]' > "$build/printed" ||
+        { echo "the program does not ask for libresidues.so.1"; exit 1; }
     owe_same "4 4 5" "$(LD_LIBRARY_PATH="$installed/some prefix/lib" "$build/apply-shared")"
 }
 
