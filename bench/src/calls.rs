@@ -1,31 +1,66 @@
-//! The calls that are timed, and what they are lent.
+//! The calls that are timed, by the library and by the plain program.
 
+use crate::lent::Lent;
 use crate::library;
+use plain::Refusal;
 use std::hint::black_box;
 
-pub const P: u32 = 2_147_483_647;
+/// A call by one program on what it is lent: the value of its reply, 0 where it has none, or nothing where it is refused.
+pub type Run<T> = fn(&mut T) -> Option<u32>;
 
-/// A call by the library and by the plain program; each says whether it was accepted.
 pub struct Call {
     pub name: &'static str,
-    pub library: fn(&mut Lent) -> bool,
-    pub plain: fn(&mut Lent) -> bool,
-    leaves: Leaves,
+    pub library: Run<Lent>,
+    pub plain: Run<Lent>,
+    pub leaves: Leaves,
 }
 
-/// The result: a table that joins two, of twice their order, a table of the same order, or a column.
-enum Leaves {
+/// The result: a table that joins two, of twice their order, a table of the same order, a column, the whole matrix, the value of
+/// the reply, or a row file.
+#[derive(Clone, Copy, PartialEq)]
+pub enum Leaves {
     Joined,
     Table,
     Column,
+    Matrix,
+    Value,
+    File,
 }
 
-pub const CALLS: [Call; 5] = [
-    Call { name: "product", library: library_product, plain: plain_product, leaves: Leaves::Joined },
-    Call { name: "sum", library: library_sum, plain: plain_sum, leaves: Leaves::Joined },
-    Call { name: "apply", library: library_apply, plain: plain_apply, leaves: Leaves::Column },
-    Call { name: "solve", library: library_solve, plain: plain_solve, leaves: Leaves::Column },
-    Call { name: "inverse", library: library_inverse, plain: plain_inverse, leaves: Leaves::Table },
+/// The call of this name by both programs, with the same arguments. The lent passes through black_box: neither program may know
+/// its numbers and buffers beforehand.
+macro_rules! call {
+    ($name:ident, $leaves:ident, $lent:ident: $($argument:expr),*) => {
+        Call {
+            name: stringify!($name),
+            library: |$lent| {
+                let $lent = black_box($lent);
+                library::$name($($argument),*)
+            },
+            plain: |$lent| {
+                let $lent = black_box($lent);
+                plain::$name($($argument),*).value()
+            },
+            leaves: Leaves::$leaves,
+        }
+    };
+}
+
+#[rustfmt::skip]
+pub static CALLS: [Call; 12] = [
+    // The entry farthest from the diagonal.
+    call!(entry, Value, l: l.p, l.n, l.order, l.order, l.n, 1, &l.first),
+    call!(matrix, Matrix, l: l.p, l.n, l.order, l.order, &l.first, &mut l.result),
+    call!(apply, Column, l: l.p, l.n, l.order, l.order, &l.first, &l.column, &mut l.result),
+    call!(apply_transpose, Column, l: l.p, l.n, l.order, l.order, &l.first, &l.column, &mut l.result),
+    call!(transpose, Table, l: l.p, l.n, l.order, l.order, &l.first, &mut l.result),
+    call!(multiple, Table, l: l.p, l.n, l.order, l.order, l.factor, &l.first, &mut l.result),
+    call!(sum, Joined, l: l.p, l.n, l.order, l.order, l.order, l.order, &l.first, &l.second, &mut l.result),
+    call!(product, Joined, l: l.p, l.n, l.order, l.order, l.order, l.order, &l.first, &l.second, &mut l.result),
+    call!(solve, Column, l: l.p, l.n, l.order, l.order, &l.first, &l.column, &mut l.work, &mut l.result),
+    call!(inverse, Table, l: l.p, l.n, l.order, l.order, &l.first, &mut l.result),
+    call!(read_file, Table, l: &l.file, &mut l.result),
+    call!(write_file, File, l: l.p, l.n, l.order, l.order, &l.first, &mut l.new_file),
 ];
 
 impl Call {
@@ -37,122 +72,35 @@ impl Call {
         }
     }
 
-    /// The order of the result, where it is a table.
-    pub fn order_left(&self, order: u32) -> Option<u32> {
-        match self.leaves {
-            Leaves::Joined => Some(2 * order),
-            Leaves::Table => Some(order),
-            Leaves::Column => None,
+    /// Added orders above 8 are refused (6).
+    pub fn accepts(&self, order: u32) -> bool {
+        self.leaves != Leaves::Joined || 2 * order <= 8
+    }
+
+    /// What the time grows with: the entries of the whole matrix, else the rows.
+    pub fn units(&self, n: u32) -> f64 {
+        let rows = n as f64;
+        if self.leaves == Leaves::Matrix {
+            rows * rows
+        } else {
+            rows
         }
     }
 }
 
-/// Buffers of random residues for tables of one order, below the diagonal and above it. No seed in use gives a zero pivot.
-pub struct Lent {
-    p: u32,
-    pub n: u32,
-    order: u32,
-    pub first: Vec<u32>,
-    pub second: Vec<u32>,
-    pub column: Vec<u32>,
-    work: Vec<u32>,
-    pub result: Vec<u32>,
+/// A reply of the plain program as the library's.
+trait Reply {
+    fn value(self) -> Option<u32>;
 }
 
-impl Lent {
-    pub fn new(call: &Call, n: u32, order: u32, seed: u64) -> Lent {
-        let mut random = Random(seed);
-        let (rows, words) = (n as usize, row_words(order));
-        Lent {
-            p: P,
-            n,
-            order,
-            first: random.residues(rows * words),
-            second: random.residues(rows * words),
-            column: random.residues(rows),
-            work: vec![0; rows * order as usize],
-            result: vec![0; rows * call.order_left(order).map_or(1, row_words)],
-        }
-    }
-
-    /// Takes what a call has written, and leaves other words.
-    pub fn take_written(&mut self) -> [Vec<u32>; 2] {
-        [&mut self.work, &mut self.result].map(|words| {
-            let blank = vec![u32::MAX; words.len()];
-            std::mem::replace(words, blank)
-        })
+impl Reply for Result<u32, Refusal> {
+    fn value(self) -> Option<u32> {
+        self.ok()
     }
 }
 
-/// d, p, a, q, g, b, h.
-fn row_words(order: u32) -> usize {
-    let order = order as usize;
-    1 + 2 * (2 * order + order * order)
-}
-
-/// Numbers and buffers pass through black_box: neither program may know them beforehand.
-fn library_product(lent: &mut Lent) -> bool {
-    let Lent { p, n, order, first, second, result, .. } = black_box(lent);
-    library::product(*p, *n, *order, *order, first, second, result) == 0
-}
-
-fn library_sum(lent: &mut Lent) -> bool {
-    let Lent { p, n, order, first, second, result, .. } = black_box(lent);
-    library::sum(*p, *n, *order, *order, first, second, result) == 0
-}
-
-fn library_apply(lent: &mut Lent) -> bool {
-    let Lent { p, n, order, first, column, result, .. } = black_box(lent);
-    library::apply(*p, *n, *order, *order, first, column, result) == 0
-}
-
-fn library_solve(lent: &mut Lent) -> bool {
-    let Lent { p, n, order, first, column, work, result, .. } = black_box(lent);
-    library::solve(*p, *n, *order, *order, first, column, work, result) == 0
-}
-
-fn library_inverse(lent: &mut Lent) -> bool {
-    let Lent { p, n, order, first, result, .. } = black_box(lent);
-    library::inverse(*p, *n, *order, *order, first, result) == 0
-}
-
-fn plain_product(lent: &mut Lent) -> bool {
-    let Lent { p, n, order, first, second, result, .. } = black_box(lent);
-    plain::product(*p, *n, *order, *order, *order, *order, first, second, result).is_ok()
-}
-
-fn plain_sum(lent: &mut Lent) -> bool {
-    let Lent { p, n, order, first, second, result, .. } = black_box(lent);
-    plain::sum(*p, *n, *order, *order, *order, *order, first, second, result).is_ok()
-}
-
-fn plain_apply(lent: &mut Lent) -> bool {
-    let Lent { p, n, order, first, column, result, .. } = black_box(lent);
-    plain::apply(*p, *n, *order, *order, first, column, result).is_ok()
-}
-
-fn plain_solve(lent: &mut Lent) -> bool {
-    let Lent { p, n, order, first, column, work, result, .. } = black_box(lent);
-    plain::solve(*p, *n, *order, *order, first, column, work, result).is_ok()
-}
-
-fn plain_inverse(lent: &mut Lent) -> bool {
-    let Lent { p, n, order, first, result, .. } = black_box(lent);
-    plain::inverse(*p, *n, *order, *order, first, result).is_ok()
-}
-
-/// A small generator of numbers (splitmix64), the same on every machine.
-struct Random(u64);
-
-impl Random {
-    fn residues(&mut self, count: usize) -> Vec<u32> {
-        (0..count).map(|_| (self.next() % P as u64) as u32).collect()
-    }
-
-    fn next(&mut self) -> u64 {
-        self.0 = self.0.wrapping_add(0x9e37_79b9_7f4a_7c15);
-        let x = (self.0 ^ self.0 >> 30).wrapping_mul(0xbf58_476d_1ce4_e5b9);
-        let x = (x ^ x >> 27).wrapping_mul(0x94d0_49bb_1331_11eb);
-        x ^ x >> 31
+impl Reply for Result<(), Refusal> {
+    fn value(self) -> Option<u32> {
+        self.ok().map(|()| 0)
     }
 }

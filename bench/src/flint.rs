@@ -1,106 +1,148 @@
 //! The library's calls beside FLINT's on the same matrices in full, where FLINT is installed. All that is unsafe in FLINT's
 //! calls stands here.
 
-use crate::calls::{Call, Lent, CALLS, P};
-use crate::measure::{median, time};
+use crate::calls::{Call, Leaves, Run};
+use crate::goals::ORDER;
+use crate::lent::{Lent, P};
+use crate::measure::{in_turn, median, time, SIZES};
+use crate::report::Dense;
 use std::ffi::{c_char, c_int, CStr};
 use std::time::{Duration, Instant};
 
-/// FLINT is lent N by N words whatever the orders; the library is slowest here at these.
-const ORDER: u32 = 4;
-const SIZES: [u32; 3] = [128, 256, 1024];
-/// A program runs this often and this long, then the other does.
-const LEAST_CALLS: usize = 3;
-const LEAST_TIME: Duration = Duration::from_millis(250);
+const LEAST_ROUNDS: usize = 7;
+const LEAST_TIME: Duration = Duration::from_millis(500);
+/// In a round a program runs at least this long, and at least once.
+const TURN: Duration = Duration::from_millis(20);
 
 /// The matrices of a call as FLINT holds them, in flint.c.
-enum Dense {}
+enum Matrices {}
 
-type Run = unsafe extern "C" fn(*mut Dense) -> c_int;
+type DenseRun = unsafe extern "C" fn(*mut Matrices) -> c_int;
 
 extern "C" {
     fn dense_version() -> *const c_char;
-    fn dense_new(p: u32, n: u32, columns: u32, a: *const u32, b: *const u32) -> *mut Dense;
-    fn dense_free(dense: *mut Dense);
-    fn dense_words(dense: *const Dense, words: *mut u32);
-    fn dense_product(dense: *mut Dense) -> c_int;
-    fn dense_apply(dense: *mut Dense) -> c_int;
-    fn dense_solve(dense: *mut Dense) -> c_int;
-    fn dense_inverse(dense: *mut Dense) -> c_int;
+    fn dense_new(p: u32, n: u32, columns: u32, a: *const u32, b: *const u32) -> *mut Matrices;
+    fn dense_free(dense: *mut Matrices);
+    fn dense_words(dense: *const Matrices, words: *mut u32);
+    fn dense_product(dense: *mut Matrices) -> c_int;
+    fn dense_apply(dense: *mut Matrices) -> c_int;
+    fn dense_solve(dense: *mut Matrices) -> c_int;
+    fn dense_inverse(dense: *mut Matrices) -> c_int;
 }
 
-pub fn print() {
-    let version = unsafe { CStr::from_ptr(dense_version()) }.to_string_lossy();
-    println!("\nFLINT {version} on the matrices in full, one thread; ratios FLINT / library");
-    println!("{:14}{:>6}{:>14}{:>14}{:>8}", "", "N", "library", "FLINT", "ratio");
-    for call in &CALLS {
-        SIZES.iter().filter_map(|&n| Case::new(call, n)).for_each(print_line);
+/// The cases of each call that is measured beside FLINT.
+pub struct Flint(Vec<Vec<Case>>);
+
+impl Flint {
+    /// All cases, checked.
+    pub fn new(calls: &[&'static Call]) -> Option<Flint> {
+        let mut cases: Vec<Vec<Case>> = calls.iter().filter_map(|call| cases(call)).collect();
+        cases.iter_mut().flatten().for_each(Case::check);
+        Some(Flint(cases))
+    }
+
+    pub fn version(&self) -> String {
+        unsafe { CStr::from_ptr(dense_version()) }.to_string_lossy().into_owned()
+    }
+
+    pub fn measure(&mut self) -> Vec<Dense> {
+        self.0.iter_mut().map(|cases| line(cases)).collect()
     }
 }
 
-fn print_line(mut case: Case) {
-    case.check();
-    let (library, flint) = (case.time(Case::library) * 1e6, case.time(Case::flint) * 1e6);
-    println!("{:14}{:6}{library:11.1} us{flint:11.1} us{:8.2}", case.call.title(ORDER), case.lent.n, flint / library);
+/// The call at all sizes but N 1; none where it is not measured beside FLINT.
+fn cases(call: &'static Call) -> Option<Vec<Case>> {
+    let run: DenseRun = match call.name {
+        "product" => dense_product,
+        "apply" => dense_apply,
+        "solve" => dense_solve,
+        "inverse" => dense_inverse,
+        _ => return None,
+    };
+    Some(SIZES[1..].iter().map(|&n| Case::new(call, run, n)).collect())
+}
+
+fn line(cases: &mut [Case]) -> Dense {
+    let call = cases[0].call;
+    let rounds: Vec<Vec<[f64; 2]>> = cases.iter_mut().map(Case::measure).collect();
+    let ratios = rounds.iter().map(|rounds| median(rounds.iter().map(|[library, flint]| flint / library))).collect();
+    let last = &rounds[rounds.len() - 1];
+    let [library, flint] = [0, 1].map(|program| median(last.iter().map(|times| times[program])));
+    Dense { call, ratios, library, flint }
 }
 
 /// A call on lent tables, and on the same matrices in full.
 struct Case {
     call: &'static Call,
     lent: Lent,
-    run: Run,
-    dense: *mut Dense,
+    run: DenseRun,
+    matrices: *mut Matrices,
     /// The words of FLINT's result.
     words: usize,
 }
 
 impl Case {
-    fn new(call: &'static Call, n: u32) -> Option<Case> {
-        let lent = Lent::new(call, n, ORDER, n as u64);
+    fn new(call: &'static Call, run: DenseRun, n: u32) -> Case {
+        let lent = Lent::new(call, n, ORDER);
         let first = full(n, ORDER, &lent.first);
-        let (run, second): (Run, Vec<u32>) = match call.name {
-            "product" => (dense_product, full(n, ORDER, &lent.second)),
-            "apply" => (dense_apply, lent.column.clone()),
-            "solve" => (dense_solve, lent.column.clone()),
-            "inverse" => (dense_inverse, first.clone()),
-            _ => return None,
+        let second = match call.leaves {
+            Leaves::Joined => full(n, ORDER, &lent.second),
+            Leaves::Column => lent.column.clone(),
+            _ => first.clone(),
         };
         let columns = second.len() as u32 / n;
-        let dense = unsafe { dense_new(P, n, columns, first.as_ptr(), second.as_ptr()) };
-        Some(Case { call, lent, run, dense, words: second.len() })
+        let matrices = unsafe { dense_new(P, n, columns, first.as_ptr(), second.as_ptr()) };
+        Case { call, lent, run, matrices, words: second.len() }
     }
 
     /// Both have the same matrix or column.
     fn check(&mut self) {
-        assert!(self.library() && self.flint(), "{} is refused", self.call.name);
+        assert!(self.library().is_some() && self.flint().is_some(), "{} is refused", self.call.name);
         let mut words = vec![0; self.words];
-        unsafe { dense_words(self.dense, words.as_mut_ptr()) };
+        unsafe { dense_words(self.matrices, words.as_mut_ptr()) };
         let (n, result) = (self.lent.n, &self.lent.result);
-        let same = self.call.order_left(ORDER).map_or(*result == words, |order| full(n, order, result) == words);
+        let same = match self.call.leaves {
+            Leaves::Joined => full(n, 2 * ORDER, result) == words,
+            Leaves::Table => full(n, ORDER, result) == words,
+            _ => *result == words,
+        };
         assert!(same, "the library and FLINT differ in {} at N {n}", self.call.name);
     }
 
-    fn time(&mut self, run: fn(&mut Case) -> bool) -> f64 {
+    /// The rounds' times of the library and of FLINT, which take turns in going first.
+    fn measure(&mut self) -> Vec<[f64; 2]> {
+        let mut rounds = Vec::new();
+        let start = Instant::now();
+        while rounds.len() < LEAST_ROUNDS || start.elapsed() < LEAST_TIME {
+            let library_first = rounds.len() % 2 == 0;
+            rounds.push(in_turn(library_first, Case::library, Case::flint, |run| self.turn(run)));
+        }
+        rounds
+    }
+
+    /// The median time of one program's calls in a round.
+    fn turn(&mut self, run: Run<Case>) -> f64 {
         let mut times = Vec::new();
         let start = Instant::now();
-        while times.len() < LEAST_CALLS || start.elapsed() < LEAST_TIME {
+        while times.is_empty() || start.elapsed() < TURN {
             times.push(time(run, self));
         }
         median(times.into_iter())
     }
 
-    fn library(&mut self) -> bool {
+    fn library(&mut self) -> Option<u32> {
         (self.call.library)(&mut self.lent)
     }
 
-    fn flint(&mut self) -> bool {
-        unsafe { (self.run)(self.dense) != 0 }
+    fn flint(&mut self) -> Option<u32> {
+        let accepted = unsafe { (self.run)(self.matrices) != 0 };
+        accepted.then_some(0)
     }
 }
 
 impl Drop for Case {
     fn drop(&mut self) {
-        unsafe { dense_free(self.dense) }
+        unsafe { dense_free(self.matrices) }
     }
 }
 

@@ -1,105 +1,39 @@
-//! The library's calls on slices. All that is unsafe in them stands here.
+//! The library's calls on slices, with the arguments of the plain program's. All that is unsafe in them stands here.
+#![allow(clippy::too_many_arguments)]
 
-mod c {
-    extern "C" {
-        pub fn residues_apply(
-            p: u32,
-            n: u32,
-            r: u32,
-            s: u32,
-            table: *const u32,
-            table_len: usize,
-            column: *const u32,
-            column_len: usize,
-            result: *mut u32,
-            result_len: usize,
-        ) -> u64;
+/// Declares C calls and wraps them: numbers, then buffers that are read, then buffers that are written, each with its length.
+macro_rules! calls {
+    ($($name:ident = $symbol:ident($($number:ident),*; $($read:ident: $from:ty),*; $($written:ident: $to:ty),*);)*) => {
+        mod c {
+            extern "C" {
+                $(pub fn $symbol($($number: u32,)* $($read: *const $from, _: usize,)* $($written: *mut $to, _: usize),*) -> u64;)*
+            }
+        }
 
-        pub fn residues_sum(
-            p: u32,
-            n: u32,
-            r1: u32,
-            s1: u32,
-            r2: u32,
-            s2: u32,
-            first: *const u32,
-            first_len: usize,
-            second: *const u32,
-            second_len: usize,
-            result: *mut u32,
-            result_len: usize,
-        ) -> u64;
-
-        pub fn residues_product(
-            p: u32,
-            n: u32,
-            r1: u32,
-            s1: u32,
-            r2: u32,
-            s2: u32,
-            first: *const u32,
-            first_len: usize,
-            second: *const u32,
-            second_len: usize,
-            result: *mut u32,
-            result_len: usize,
-        ) -> u64;
-
-        pub fn residues_solve(
-            p: u32,
-            n: u32,
-            r: u32,
-            s: u32,
-            table: *const u32,
-            table_len: usize,
-            column: *const u32,
-            column_len: usize,
-            work: *mut u32,
-            work_len: usize,
-            result: *mut u32,
-            result_len: usize,
-        ) -> u64;
-
-        pub fn residues_inverse(
-            p: u32,
-            n: u32,
-            r: u32,
-            s: u32,
-            table: *const u32,
-            table_len: usize,
-            result: *mut u32,
-            result_len: usize,
-        ) -> u64;
-    }
+        $(pub fn $name($($number: u32,)* $($read: &[$from],)* $($written: &mut [$to]),*) -> Option<u32> {
+            value(unsafe {
+                c::$symbol($($number,)* $($read.as_ptr(), $read.len(),)* $($written.as_mut_ptr(), $written.len()),*)
+            })
+        })*
+    };
 }
 
-/// The table, of orders r and s, times the column.
-pub fn apply(p: u32, n: u32, r: u32, s: u32, table: &[u32], column: &[u32], result: &mut [u32]) -> u64 {
-    let (table, table_len, column, column_len) = (table.as_ptr(), table.len(), column.as_ptr(), column.len());
-    unsafe { c::residues_apply(p, n, r, s, table, table_len, column, column_len, result.as_mut_ptr(), result.len()) }
+calls! {
+    entry = residues_entry(p, n, r, s, i, j; table: u32;);
+    matrix = residues_matrix(p, n, r, s; table: u32; result: u32);
+    apply = residues_apply(p, n, r, s; table: u32, column: u32; result: u32);
+    apply_transpose = residues_apply_transpose(p, n, r, s; table: u32, column: u32; result: u32);
+    transpose = residues_transpose(p, n, r, s; table: u32; result: u32);
+    multiple = residues_multiple(p, n, r, s, c; table: u32; result: u32);
+    sum = residues_sum(p, n, r1, s1, r2, s2; first: u32, second: u32; result: u32);
+    product = residues_product(p, n, r1, s1, r2, s2; first: u32, second: u32; result: u32);
+    solve = residues_solve(p, n, r, s; table: u32, column: u32; work: u32, result: u32);
+    inverse = residues_inverse(p, n, r, s; table: u32; result: u32);
+    read_file = residues_read_file(; file: u8; result: u32);
+    write_file = residues_write_file(p, n, r, s; table: u32; file: u8);
 }
 
-/// Two tables, each of orders r and s, added.
-pub fn sum(p: u32, n: u32, r: u32, s: u32, first: &[u32], second: &[u32], result: &mut [u32]) -> u64 {
-    let (first, first_len, second, second_len) = (first.as_ptr(), first.len(), second.as_ptr(), second.len());
-    unsafe { c::residues_sum(p, n, r, s, r, s, first, first_len, second, second_len, result.as_mut_ptr(), result.len()) }
-}
-
-/// Two tables, each of orders r and s, multiplied.
-pub fn product(p: u32, n: u32, r: u32, s: u32, first: &[u32], second: &[u32], result: &mut [u32]) -> u64 {
-    let (first, first_len, second, second_len) = (first.as_ptr(), first.len(), second.as_ptr(), second.len());
-    unsafe { c::residues_product(p, n, r, s, r, s, first, first_len, second, second_len, result.as_mut_ptr(), result.len()) }
-}
-
-/// The column that the table, of orders r and s, sends to the given one.
-#[allow(clippy::too_many_arguments)]
-pub fn solve(p: u32, n: u32, r: u32, s: u32, table: &[u32], column: &[u32], work: &mut [u32], result: &mut [u32]) -> u64 {
-    let (table, table_len, column, column_len) = (table.as_ptr(), table.len(), column.as_ptr(), column.len());
-    let (work, work_len, result, result_len) = (work.as_mut_ptr(), work.len(), result.as_mut_ptr(), result.len());
-    unsafe { c::residues_solve(p, n, r, s, table, table_len, column, column_len, work, work_len, result, result_len) }
-}
-
-/// The table, of orders r and s, inverted.
-pub fn inverse(p: u32, n: u32, r: u32, s: u32, table: &[u32], result: &mut [u32]) -> u64 {
-    unsafe { c::residues_inverse(p, n, r, s, table.as_ptr(), table.len(), result.as_mut_ptr(), result.len()) }
+/// The value of a reply whose number is 0.
+fn value(reply: u64) -> Option<u32> {
+    (reply & 255 == 0).then_some((reply >> 32) as u32)
 }

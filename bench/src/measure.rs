@@ -1,81 +1,132 @@
 //! Times of a call at several sizes, by both programs in turn, so that what disturbs the machine disturbs both.
 
-use crate::calls::{Call, Lent};
+use crate::calls::{Call, Run};
+use crate::clock;
+use crate::lent::Lent;
 use std::time::{Duration, Instant};
 
-const LEAST_ROUNDS: usize = 101;
-const LEAST_TIME: Duration = Duration::from_secs(2);
+/// N 1 shows the part of a call that does not grow: mostly the test that P is a prime.
+pub const SIZES: [u32; 5] = [1, 128, 256, 512, 1024];
 
-/// The times at one size in seconds, one of each round.
-#[derive(Default)]
+/// A call on tables of one order, at every size.
+pub struct Case {
+    pub call: &'static Call,
+    pub order: u32,
+    lent: [Lent; SIZES.len()],
+}
+
+/// At least so many rounds, for at least this time.
+pub struct Effort {
+    pub rounds: usize,
+    pub time: Duration,
+}
+
+/// The seconds of one call, the mean of a round's two.
+#[derive(Clone, Copy, Default)]
+pub struct Pair {
+    pub library: f64,
+    pub plain: f64,
+}
+
+type Round = [Pair; SIZES.len()];
+
+/// The rounds of a case.
 pub struct Times {
-    library: Vec<f64>,
-    plain: Vec<f64>,
+    pub rounds: Vec<Round>,
+}
+
+impl Case {
+    pub fn new(call: &'static Call, order: u32) -> Case {
+        Case { call, order, lent: SIZES.map(|n| Lent::new(call, n, order)) }
+    }
+
+    /// Both programs accept, and leave the same words and the same value.
+    pub fn check(&mut self) {
+        let (call, title) = (self.call, self.call.title(self.order));
+        for lent in &mut self.lent {
+            let [plain, library] = [call.plain, call.library].map(|run| {
+                lent.take_written();
+                (run(lent), lent.take_written())
+            });
+            assert!(plain.0.is_some(), "the plain program refuses {title} at N {}", lent.n);
+            assert!(library == plain, "the library and the plain program differ in {title} at N {}", lent.n);
+        }
+    }
+
+    pub fn measure(&mut self, effort: Effort) -> Times {
+        let mut rounds = Vec::new();
+        let start = Instant::now();
+        while rounds.len() < effort.rounds || start.elapsed() < effort.time {
+            rounds.push(self.round());
+        }
+        Times { rounds }
+    }
+
+    /// Each program once at every size, the library first, then once more, the plain program first.
+    fn round(&mut self) -> Round {
+        let mut round = Round::default();
+        for library_first in [true, false] {
+            for (pair, lent) in round.iter_mut().zip(&mut self.lent) {
+                let [library, plain] = in_turn(library_first, self.call.library, self.call.plain, |run| time(run, lent));
+                pair.library += library / 2.0;
+                pair.plain += plain / 2.0;
+            }
+        }
+        round
+    }
 }
 
 impl Times {
-    pub fn library(&self) -> f64 {
-        median(self.library.iter().copied())
+    /// The median time at a size.
+    pub fn time(&self, size: usize, by: fn(&Pair) -> f64) -> f64 {
+        median(self.rounds.iter().map(|round| by(&round[size])))
     }
 
-    pub fn plain(&self) -> f64 {
-        median(self.plain.iter().copied())
+    /// The median of the rounds' ratios library / plain.
+    pub fn ratio(&self, size: usize) -> f64 {
+        median(self.rounds.iter().map(|round| round[size].library / round[size].plain))
     }
 
-    /// The median of the rounds' ratios.
-    pub fn ratio(&self) -> f64 {
-        median(self.library.iter().zip(&self.plain).map(|(library, plain)| library / plain))
+    /// The same at the last size.
+    pub fn last_ratio(&self) -> f64 {
+        self.ratio(SIZES.len() - 1)
     }
 
-    pub fn rounds(&self) -> usize {
-        self.plain.len()
+    /// The time at a size less that at N 1, for each unit that the time grows with.
+    pub fn cost(&self, size: usize, call: &Call, by: fn(&Pair) -> f64) -> f64 {
+        median(self.rounds.iter().map(|round| cost(round, size, call, by)))
+    }
+
+    /// The median of the rounds' ratios of this cost to that at the first size after N 1.
+    pub fn growth(&self, size: usize, call: &Call, by: fn(&Pair) -> f64) -> f64 {
+        median(self.rounds.iter().map(|round| cost(round, size, call, by) / cost(round, 1, call, by)))
     }
 }
 
-/// A call of one order at every size, round by round.
-pub fn measure(call: &Call, order: u32, sizes: &[u32]) -> Vec<Times> {
-    let mut lent: Vec<Lent> = sizes.iter().map(|&n| Lent::new(call, n, order, n as u64)).collect();
-    lent.iter_mut().for_each(|lent| check(call, lent));
-    let mut times: Vec<Times> = sizes.iter().map(|_| Times::default()).collect();
-    let start = Instant::now();
-    while times[0].rounds() < LEAST_ROUNDS || start.elapsed() < LEAST_TIME {
-        for (times, lent) in times.iter_mut().zip(&mut lent) {
-            round(call, lent, times);
-        }
-    }
-    times
+fn cost(round: &Round, size: usize, call: &Call, by: fn(&Pair) -> f64) -> f64 {
+    (by(&round[size]) - by(&round[0])) / call.units(SIZES[size])
 }
 
-/// One call by each program; the two take turns in going first.
-fn round(call: &Call, lent: &mut Lent, times: &mut Times) {
-    if times.rounds().is_multiple_of(2) {
-        times.library.push(time(call.library, lent));
-        times.plain.push(time(call.plain, lent));
+/// What both programs take by the same means, in this order or the other.
+pub fn in_turn<T>(one_first: bool, one: Run<T>, two: Run<T>, mut measure: impl FnMut(Run<T>) -> f64) -> [f64; 2] {
+    if one_first {
+        [measure(one), measure(two)]
     } else {
-        times.plain.push(time(call.plain, lent));
-        times.library.push(time(call.library, lent));
+        let two = measure(two);
+        [measure(one), two]
     }
 }
 
-pub fn time<T>(run: fn(&mut T) -> bool, lent: &mut T) -> f64 {
-    let start = Instant::now();
-    let accepted = run(lent);
-    let time = start.elapsed();
-    assert!(accepted, "a call is refused");
-    time.as_secs_f64()
-}
-
-/// Both programs accept, and leave the same words.
-fn check(call: &Call, lent: &mut Lent) {
-    lent.take_written();
-    assert!((call.plain)(lent), "the plain program refuses {} at N {}", call.name, lent.n);
-    let words = lent.take_written();
-    assert!((call.library)(lent), "the library refuses {} at N {}", call.name, lent.n);
-    assert!(lent.take_written() == words, "the library and the plain program differ in {} at N {}", call.name, lent.n);
+pub fn time<T>(run: Run<T>, lent: &mut T) -> f64 {
+    let start = clock::now();
+    let value = run(lent);
+    let time = clock::now() - start;
+    assert!(value.is_some(), "a call is refused");
+    time
 }
 
 pub fn median(values: impl Iterator<Item = f64>) -> f64 {
     let mut values: Vec<f64> = values.collect();
     values.sort_by(f64::total_cmp);
-    values[values.len() / 2]
+    (values[(values.len() - 1) / 2] + values[values.len() / 2]) / 2.0
 }
