@@ -46,7 +46,6 @@ macro_rules! call {
     };
 }
 
-#[rustfmt::skip]
 pub static CALLS: [Call; 12] = [
     // The entry farthest from the diagonal.
     call!(entry, Value, l: l.p, l.n, l.order, l.order, l.n, 1, &l.first),

@@ -48,7 +48,9 @@ impl Case {
                 lent.take_written();
                 (run(lent), lent.take_written())
             });
-            assert!(plain.0.is_some(), "the plain program refuses {title} at N {}", lent.n);
+            for (program, left) in [("plain program", &plain), ("library", &library)] {
+                assert!(left.0.is_some(), "the {program} refuses {title} at N {}", lent.n);
+            }
             assert!(library == plain, "the library and the plain program differ in {title} at N {}", lent.n);
         }
     }
