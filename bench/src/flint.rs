@@ -10,7 +10,7 @@ use std::ffi::{c_char, c_int, CStr};
 use std::time::{Duration, Instant};
 
 const LEAST_ROUNDS: usize = 7;
-const LEAST_TIME: Duration = Duration::from_millis(500);
+const LEAST_TIME: Duration = Duration::from_secs(1);
 /// In a round a program runs at least this long, and at least once.
 const TURN: Duration = Duration::from_millis(20);
 
