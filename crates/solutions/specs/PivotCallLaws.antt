@@ -72,18 +72,12 @@ module _ (N : ℕ) (A : Table) (b v d : List ℕ) where
   pub column-reads : (m P : ℕ) → m ≡ P → N ≤ length b → firstBadPlace P N b ≡ 0 → Within m b 0 N
   column-reads m P e h f k l = let z : 0 + k ≡ k = omega arith in rw (z, e) (omega arith, place-below P N b f k l)
 
-  module _ (one : 1 ≤ N) (hv : N * A .upper ≤ length v) (hd : N ≤ length d) (m P : ℕ) (e : m ≡ P) {w out : List ℕ} (f : w ≡ workW m N A ++ drop (N * A .upper) v) (g : out ≡ solveW m N A b ++ drop N d) where
-    pub work-kept : length w ≡ length v
-    work-kept = written-length (workW m N A) v w _ (work-length m N (A .lower) (A .upper) (A .words) one) hv f
-
-    pub result-kept : length out ≡ length d
-    result-kept = written-length (solveW m N A b) d out _ (solve-length m N A b) hd g
-
-    pub solve-leaves : (y : Reply) → Accepted y → (w ≡ after y (workW P N A) v) × (out ≡ after y (solveW P N A b) d)
-    solve-leaves y ok = (
-      accepted-leaves y (workW P N A) v w _ ok (work-length P N (A .lower) (A .upper) (A .words) one) (rw (← e) f),
-      accepted-leaves y (solveW P N A b) d out _ ok (solve-length P N A b) (rw (← e) g),
-    )
+  pub solve-leaves : 1 ≤ N → (m P : ℕ) → m ≡ P → {w out : List ℕ} → w ≡ workW m N A ++ drop (N * A .upper) v → out ≡ solveW m N A b ++ drop N d
+      → (y : Reply) → Accepted y → (w ≡ after y (workW P N A) v) × (out ≡ after y (solveW P N A b) d)
+  solve-leaves one m P e {w} {out} f g y ok = (
+    accepted-leaves y (workW P N A) v w _ ok (work-length P N (A .lower) (A .upper) (A .words) one) (rw (← e) f),
+    accepted-leaves y (solveW P N A b) d out _ ok (solve-length P N A b) (rw (← e) g),
+  )
 
 -- What inverting leaves.
 module _ (N : ℕ) (A : Table) (d : List ℕ) (h : tableLength N A ≤ length d) (m P : ℕ) (e : m ≡ P) {out : List ℕ} (f : out ≡ inverseW m N A ++ drop (tableLength N A) d) where

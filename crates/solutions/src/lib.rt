@@ -29,11 +29,10 @@ pub fn solve(
     let size = n as usize;
     let lower = r as usize;
     let upper = s as usize;
-    let row = pivots::first_zero(m, size, lower, upper, table);
+    let row = solves::solve(m, size, lower, upper, table, column, work, result);
     if 0 < row {
         return checks::refuse(7, 1, row as u32);
     }
-    solves::solve(m, size, lower, upper, table, column, work, result);
     y
 }
 
