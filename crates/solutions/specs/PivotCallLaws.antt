@@ -15,7 +15,7 @@ use Rattle.checks.specs.Passed.{Good, solve-passed, inverse-passed}
 use Rattle.block.specs.Block.{Within}
 use Rattle.refusals.specs.Ladder.{here, next, last, first-stop, first-clear, first-accept, first-pass, row-found, row-none}
 use Rattle.solves.specs.SolveSweep.{work-length, solve-length}
-use Rattle.calls.specs.Finish.{accepted-leaves, written-length}
+use Rattle.calls.specs.Finish.{accepted-leaves}
 use Rattle.solutions.specs.PivotCall.{PivotCall}
 
 module _ {P N : ℕ} {A : Table} {cs : List Check} {y x : Reply} (c : PivotCall P N A cs y x) where
@@ -80,13 +80,10 @@ module _ (N : ℕ) (A : Table) (b v d : List ℕ) where
   )
 
 -- What inverting leaves.
-module _ (N : ℕ) (A : Table) (d : List ℕ) (h : tableLength N A ≤ length d) (m P : ℕ) (e : m ≡ P) {out : List ℕ} (f : out ≡ inverseW m N A ++ drop (tableLength N A) d) where
+module _ (N : ℕ) (A : Table) (d : List ℕ) where
   inverse-length : (P : ℕ) → length (inverseW P N A) ≡ tableLength N A
   unfolding inverseW
   inverse-length P = length-table P N (A .lower) (A .upper) _ []
 
-  pub inverse-kept : length out ≡ length d
-  inverse-kept = written-length (inverseW m N A) d out _ (inverse-length m) h f
-
-  pub inverse-leaves : (y : Reply) → Accepted y → out ≡ after y (inverseW P N A) d
-  inverse-leaves y ok = accepted-leaves y (inverseW P N A) d out _ ok (inverse-length P) (rw (← e) f)
+  pub inverse-leaves : (m P : ℕ) → m ≡ P → {out : List ℕ} → out ≡ inverseW m N A ++ drop (tableLength N A) d → (y : Reply) → Accepted y → out ≡ after y (inverseW P N A) d
+  inverse-leaves m P e {out} f y ok = accepted-leaves y (inverseW P N A) d out _ ok (inverse-length P) (rw (← e) f)
