@@ -57,10 +57,10 @@ pub fn pack(y: Reply) -> u64
 pub fn bad_prime(p: u32) -> bool
     ensures { λ b. ⌜ b ≡ badPrime (standard .prime) p ⌝ }
 {
-    if field::is_prime(p) {
-        2147483647 < p
-    } else {
+    if 2147483647 < p {
         true
+    } else {
+        !field::is_prime(p)
     }
 }
 

@@ -1,6 +1,7 @@
 pub mod Modulo
 pub mod Prime
 pub mod PrimeTest
+pub mod Gcd
 pub mod Wheel
 pub mod WheelLaws
 pub mod Residue

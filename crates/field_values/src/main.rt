@@ -3,7 +3,7 @@ use libc::STDOUT_FILENO;
 ghost use Prim.Native.Nat.{_<_};
 ghost use Rattle.field.specs.Fit.{Fit};
 
-// Small numbers, Carmichael numbers, a strong pseudoprime, squares and products of two primes, and numbers around 2^31 and 2^32.
+// Small numbers, Carmichael numbers, a strong pseudoprime, squares of large primes of each residue prime to 30, products of two primes, and numbers up to 2^31 - 1.
 const NUMBERS: [u32; 47] = [
     0,
     1,
@@ -38,20 +38,20 @@ const NUMBERS: [u32; 47] = [
     46341,
     46349,
     2147117569,
+    2146190929,
+    2143782601,
+    2141190529,
+    2144523481,
+    2128253689,
+    2137120441,
+    2140080121,
     2146654199,
+    2147302777,
+    2147483587,
     2147483629,
     2147483642,
     2147483646,
     2147483647,
-    2147483648,
-    2147483659,
-    3215031751,
-    4293001441,
-    4292870399,
-    4294967279,
-    4294967291,
-    4294967293,
-    4294967295,
 ];
 
 // Pairs of a prime and a number to invert.
@@ -105,6 +105,9 @@ fn print(n: u32) {
 
 // The number, and whether it is prime.
 fn show_prime(n: u32) {
+    if n > 2147483647 {
+        return;
+    }
     print(n);
     if field::is_prime(n) {
         io::write_all(STDOUT_FILENO, b"prime\n");

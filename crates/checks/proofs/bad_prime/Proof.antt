@@ -1,6 +1,8 @@
 -- `checks::bad_prime` meets its contract.
+use mathlib.Core.Bool.{and-true, and-false}
 use borrow.Author.Needs.{needs}
-use Rattle.checks.specs.CheckLaws.{ltb-leb}
+use borrow.Author.Tests.{le-leb, lt-leb}
+use native.Mathlib.Omega.{arith}
 use Rattle.checks.proofs.bad_prime.Statement.{statement}
 use Rattle.checks.proofs.bad_prime.Tie as tie
 
@@ -9,5 +11,5 @@ bad-prime-spec =
     tie.close
     (tie.spec
     (λ c κs. search needs)
-    (λ c. rw (← c .before .is-prime .ensures, c .if1 .taken) (ltb-leb (c .before .before .args .p) 2147483647))
-    (λ c. rw (← c .before .is-prime .ensures, c .if1 .left)))
+    (λ c. rw (lt-leb (c .before .args .p) 2147483647 (c .if1 .taken), and-false))
+    (λ c. rw (c .is-prime .ensures, le-leb (c .before .before .args .p) 2147483647 (omega arith), and-true)))
