@@ -60,7 +60,7 @@ pub fn bad_prime(p: u32) -> bool
     if 2147483647 < p {
         true
     } else {
-        !field::is_prime(p)
+        !primes::is_prime(p)
     }
 }
 

@@ -109,7 +109,7 @@ fn show_prime(n: u32) {
         return;
     }
     print(n);
-    if field::is_prime(n) {
+    if primes::is_prime(n) {
         io::write_all(STDOUT_FILENO, b"prime\n");
     } else {
         io::write_all(STDOUT_FILENO, b"not prime\n");
@@ -140,7 +140,7 @@ fn show_inverse(p: u32, a: u32) {
     if a >= p {
         return;
     }
-    if !field::is_prime(p) {
+    if !primes::is_prime(p) {
         return;
     }
     let m = field::Modulus::new(p);
