@@ -38,9 +38,6 @@ p-comm A = A .comm
 pub p-zero : {K : Ring} (A : Mod K) (x : A .car) → A .plus x (A .zero) ≡ x
 p-zero A = A .add-zero
 
-pub p-neg : {K : Ring} (A : Mod K) (x : A .car) → A .plus x (A .neg x) ≡ A .zero
-p-neg A = A .add-neg
-
 pub p-left : {K : Ring} (A : Mod K) (x y z : A .car) → A .plus x (A .plus y z) ≡ A .plus y (A .plus x z)
 p-left A x y z = sym (A .assoc x y z) ∙ ap (λ u. A .plus u z) (A .comm x y) ∙ A .assoc y x z
 

@@ -1,5 +1,5 @@
 -- What holds in every commutative ring, and in every field.
-use mathlib.Core.Logic.{_≢_, _⊎_, inl, inr}
+use mathlib.Core.Logic.{_≢_}
 use mathlib.Core.HLevel.{hedberg}
 use mathlib.Core.Path.{_≡_, sym, ap₂, _∙_}
 use Rattle.algebra.specs.Ring.{Ring, Field}
@@ -78,10 +78,3 @@ module _ {K : Ring} (F : Field K) where
     where
       n : x ≢ zero
       n z = F .one-ne-zero (sym e ∙ rw z (zero-mul K y))
-
-  pub no-zero-divisors : (x y : car) → x ⊗ y ≡ zero → (x ≡ zero) ⊎ (y ≡ zero)
-  no-zero-divisors x y e = go (K .dec x zero)
-    where
-      go : Dec (x ≡ zero) → (x ≡ zero) ⊎ (y ≡ zero)
-      go (yes z) = inl z
-      go (no n) = inr (mul-cancel x y zero n (e ∙ sym (mul-zero K x)))

@@ -234,11 +234,6 @@ module _ (K : Ring) where
       (p : Q a → Q b → Q x) (q : Q a → Q b → Q y) → Same (p (q-v 0) (q-v 1)) (q (q-v 0) (q-v 1)) → x ≡ y)
   ring₂ a b p q e = solve (p (q-v 0) (q-v 1)) (q (q-v 0) (q-v 1)) e
 
-  pub ring₃ : (a b c : car) {x y : car} → (let Q = Quote K (a ∷ b ∷ c ∷ []) in
-      (p : Q a → Q b → Q c → Q x) (q : Q a → Q b → Q c → Q y)
-      → Same (p (q-v 0) (q-v 1) (q-v 2)) (q (q-v 0) (q-v 1) (q-v 2)) → x ≡ y)
-  ring₃ a b c p q e = solve (p (q-v 0) (q-v 1) (q-v 2)) (q (q-v 0) (q-v 1) (q-v 2)) e
-
   pub ring₄ : (a b c d : car) {x y : car} → (let Q = Quote K (a ∷ b ∷ c ∷ d ∷ []) in
       (p : Q a → Q b → Q c → Q d → Q x) (q : Q a → Q b → Q c → Q d → Q y)
       → Same (p (q-v 0) (q-v 1) (q-v 2) (q-v 3)) (q (q-v 0) (q-v 1) (q-v 2) (q-v 3)) → x ≡ y)

@@ -1,5 +1,1 @@
-pub mod Link
 pub mod Finish
-pub mod ApplyLaws
-pub mod EntryLaws
-pub mod MatrixLaws

@@ -58,7 +58,7 @@ fn bad_words(p: u32, f: &[u8], at: usize, n: usize) -> bool
 }
 
 // Whether a used word of row k of n is p or more: block by block, each of the size that the orders around the row give it.
-// The record is one word more than the row, and begins with it.
+// The record is one word more than the row: it begins with the next record's number.
 fn bad_record(p: u32, n: usize, r: usize, s: usize, k: usize, part: &[u8]) -> bool
     requires { ⌜ (k < n) × (r ≤ 8) × (s ≤ 8) × (length (now part) ≡ 4 * (1 + width r s)) ⌝ }
     ensures { λ b. ⌜ b ≡ badRow p n r s k (λ κ i j. fileWord (now (part .entry)) (1 + place r s κ i j)) ⌝ }

@@ -73,7 +73,7 @@ pub fn check_write(p: u32, n: u32, r: u32, s: u32, t: &[u32], room: usize) -> Re
     if room < 4 * (5 + rows * (1 + w)) {
         return checks::refuse(4, 6, 0);
     }
-    let row = checks::first_bad_row(p, rows, r as usize, s as usize, t);
+    let row = word_checks::first_bad_row(p, rows, r as usize, s as usize, t);
     if 0 < row {
         return checks::refuse(5, 1, row as u32);
     }

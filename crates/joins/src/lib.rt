@@ -20,7 +20,7 @@ pub fn sum(
     ensures { λ y. ⌜ reply (y .number) (y .buffer) (y .row) (y .value) ≡ sumReply p n (tab r1 s1 (now (first .entry))) (tab r2 s2 (now (second .entry))) (now (result .entry)) ⌝ }
     ensures { λ y. ⌜ now (result .exit) ≡ sumAfter p n (tab r1 s1 (now (first .entry))) (tab r2 s2 (now (second .entry))) (now (result .entry)) ⌝ }
 {
-    let y = refusals::check_pair(p, n, r1, s1, r2, s2, first, second, result.len());
+    let y = pair_refusals::check_pair(p, n, r1, s1, r2, s2, first, second, result.len());
     if y.number != 0 {
         return y;
     }
@@ -48,7 +48,7 @@ pub fn product(
     ensures { λ y. ⌜ reply (y .number) (y .buffer) (y .row) (y .value) ≡ productReply p n (tab r1 s1 (now (first .entry))) (tab r2 s2 (now (second .entry))) (now (result .entry)) ⌝ }
     ensures { λ y. ⌜ now (result .exit) ≡ productAfter p n (tab r1 s1 (now (first .entry))) (tab r2 s2 (now (second .entry))) (now (result .entry)) ⌝ }
 {
-    let y = refusals::check_pair(p, n, r1, s1, r2, s2, first, second, result.len());
+    let y = pair_refusals::check_pair(p, n, r1, s1, r2, s2, first, second, result.len());
     if y.number != 0 {
         return y;
     }

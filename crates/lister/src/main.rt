@@ -31,7 +31,7 @@ fn show_rows(m: Modulus, n: usize, r: usize, s: usize, table: &[u32])
     let mut line = [0u8; 11265];
     let mut i = 0;
     while i < n {
-        calls::matrix_row(m, n, r, s, table, i, &mut row[..n]);
+        entry_calls::matrix_row(m, n, r, s, table, i, &mut row[..n]);
         let end = listing::row_line(&mut line, &row, n);
         show(&line, end);
         i += 1;

@@ -3,18 +3,17 @@ use mathlib.Core.Bool.{Bool, true, false}
 use mathlib.Core.Logic.{_≢_}
 use mathlib.Core.Path.{_≡_, refl, sym, ap, _∙_}
 use mathlib.Core.List.{List, [], _∷_, _++_}
-use Prim.Native.Nat.{ℕ, _+_, _*_, _<_, _≤_}
+use Prim.Native.Nat.{ℕ, _*_, _<_, _≤_}
 use native.Mathlib.Omega.{arith}
 use lib.Dec.{ltb, leb}
 use lib.ListN.{length}
 use borrow.Author.Tests.{leb-true, lt-ltb, le-ltb}
 use Rattle.algebra.specs.Generators.{pick}
 use Rattle.table.specs.Limits.{standard}
-use Rattle.table.specs.Words.{Table, table}
+use Rattle.table.specs.Words.{Table}
 use Rattle.table.specs.Replies.{Reply, Check, check, accept, answer, NoFault, badPrime, badSize, badOrder, short}
 use Rattle.table.specs.Calls.{sizeChecks}
 use Rattle.table.specs.CallLaws.{refusing, passed, open-checks, refused-by, given, answer-append, both-hold}
-use Rattle.refusals.specs.Orders.{orderChecks}
 
 -- A reply against a call's checks: one more holds and gives it, one more doesn't hold, none is left.
 pub here : {c : Bool} {y w : Reply} (cs : List Check) (v : Reply) → c ≡ true → w ≡ y → w ≡ answer (check c y ∷ cs) v
@@ -69,33 +68,6 @@ module _ (P N : ℕ) (A : Table) (y : Reply) (e : Numbers P N A y) where
 
     pub numbers-pass : {w : Reply} (cs : List Check) (v : Reply) → w ≡ answer cs v → w ≡ answer (sizeChecks P N standard A cs) v
     numbers-pass cs v = first-pass (sizeChecks P N standard A []) y e refl ok cs v
-
--- The same of two tables: y is the answer of the first five checks; they pass, for each table and for the orders added.
-abbrev pub Orders : (P N : ℕ) (A B : Table) → Reply → Type 0
-Orders P N A B y = y ≡ answer (orderChecks P N A B []) (accept 0)
-
-pub record ClearPair (P N : ℕ) (A B : Table) : Type 0 where
-  pub first : Clear P N A
-  pub second : Clear P N B
-  pub added : Clear P N (table (A .lower + B .lower) (A .upper + B .upper) [])
-
-module _ (P N : ℕ) (A B : Table) (y : Reply) (e : Orders P N A B y) where
-  pub orders-stop : y .number ≢ 0 → (cs : List Check) (v : Reply) → y ≡ answer (orderChecks P N A B cs) v
-  orders-stop = first-stop (orderChecks P N A B []) y e
-
-  module _ (ok : y .number ≡ 0) where
-    pub orders-clear : ClearPair P N A B
-    orders-clear = let z = first-clear (orderChecks P N A B []) y e refl ok in record {
-      first = record { prime = z 0; size = z 1; orders = z 2 };
-      second = record { prime = z 0; size = z 1; orders = z 3 };
-      added = record { prime = z 0; size = z 1; orders = z 4 };
-    }
-
-    pub orders-accept : y ≡ accept 0
-    orders-accept = first-accept (orderChecks P N A B []) y e refl ok
-
-    pub orders-pass : {w : Reply} (cs : List Check) (v : Reply) → w ≡ answer cs v → w ≡ answer (orderChecks P N A B cs) v
-    orders-pass cs v = first-pass (orderChecks P N A B []) y e refl ok cs v
 
 -- orders, and the size with them, are within the limits
 pub order-within : (r s : ℕ) → badOrder (standard .order) r s ≡ false → (r ≤ 8) × (s ≤ 8)

@@ -16,7 +16,7 @@ pub extern "C" fn residues_entry(
 ) -> u64
     ensures { λ v. ⌜ v ≡ packed (entryReply p n (tab r s (now (table .entry))) i j) ⌝ }
 {
-    checks::pack(calls::entry(p, n, r, s, i, j, table))
+    checks::pack(entry_calls::entry(p, n, r, s, i, j, table))
 }
 
 #[no_mangle]
@@ -31,7 +31,7 @@ pub extern "C" fn residues_matrix(
     ensures { λ v. ⌜ v ≡ packed (matrixReply p n (tab r s (now (table .entry))) (now (result .entry))) ⌝ }
     ensures { λ v. ⌜ now (result .exit) ≡ matrixAfter p n (tab r s (now (table .entry))) (now (result .entry)) ⌝ }
 {
-    checks::pack(calls::matrix(p, n, r, s, table, result))
+    checks::pack(entry_calls::matrix(p, n, r, s, table, result))
 }
 
 #[no_mangle]
@@ -47,7 +47,7 @@ pub extern "C" fn residues_apply(
     ensures { λ v. ⌜ v ≡ packed (applyReply p n (tab r s (now (table .entry))) (now (column .entry)) (now (result .entry))) ⌝ }
     ensures { λ v. ⌜ now (result .exit) ≡ applyAfter p n (tab r s (now (table .entry))) (now (column .entry)) (now (result .entry)) ⌝ }
 {
-    checks::pack(calls::apply(p, n, r, s, table, column, result))
+    checks::pack(apply_calls::apply(p, n, r, s, table, column, result))
 }
 
 #[no_mangle]
@@ -63,7 +63,7 @@ pub extern "C" fn residues_apply_transpose(
     ensures { λ v. ⌜ v ≡ packed (applyReply p n (tab r s (now (table .entry))) (now (column .entry)) (now (result .entry))) ⌝ }
     ensures { λ v. ⌜ now (result .exit) ≡ applyTransposedAfter p n (tab r s (now (table .entry))) (now (column .entry)) (now (result .entry)) ⌝ }
 {
-    checks::pack(calls::apply_transpose(p, n, r, s, table, column, result))
+    checks::pack(apply_calls::apply_transpose(p, n, r, s, table, column, result))
 }
 
 #[no_mangle]

@@ -18,7 +18,7 @@ use Rattle.calls.specs.Finish.{accepted-leaves, written-length}
 use Rattle.file_checks.specs.Filed.{Headed}
 
 -- a word of row k, which is the record met after k others, and the row as it is read, by the size and the orders that code holds
-abbrev pub metWord : (f : List ℕ) (r s k : ℕ) → Kind → ℕ → ℕ → ℕ
+abbrev metWord : (f : List ℕ) (r s k : ℕ) → Kind → ℕ → ℕ → ℕ
 metWord f r s k κ i j = fileWord f (recordAt f (met f k) + (1 + place r s κ i j))
 
 abbrev pub metRow : (f : List ℕ) (n r s k : ℕ) → List ℕ

@@ -69,9 +69,9 @@ module _ (n r s k : ℕ) (t : List ℕ) (at w : ℕ) (z : w ≡ width r s) (q : 
 -- The state of the loop that writes n records of `size` bytes into a buffer a that held d, from a table t with rows of w words: k are written.
 pub record Records (n r s : ℕ) (t d : List ℕ) (w size k at to : ℕ) (a : List ℕ) : Type 0 where
   pub wide : w ≡ width r s
-  pub sized : size ≡ 4 * (1 + width r s)
+  sized : size ≡ 4 * (1 + width r s)
   pub source : n * w ≤ length t
-  pub space : n * size ≤ length d
+  space : n * size ≤ length d
   pub turns : k ≤ n
   pub here : at ≡ k * w
   pub there : to ≡ k * size

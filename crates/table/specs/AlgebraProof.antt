@@ -38,9 +38,6 @@ gap-plus N r s = fun-ext (λ k. go (outer N k))
     go false = refl
 
 module _ (P N : ℕ) where
-  abbrev K-mat : Table → Matrix (residues P)
-  K-mat A = matrixOf P N A
-
   pub sum-stands : (A B : Table) (d : List ℕ) → Accepted (sumReply P N A B d) → Same (residues P) N (matrixOf P N (sumT P N A B d)) (plusM (residues P) (matrixOf P N A) (matrixOf P N B))
   unfolding sumW matrixOf
   sum-stands A B d ok i j hi hj =

@@ -16,5 +16,4 @@ pub mod AlgebraProof
 pub mod PackedProof
 pub mod UndertakingsProof
 pub mod Lister
-pub mod Examples
 pub mod ListerLaws

@@ -1,0 +1,84 @@
+// The calls apply and apply transposed: each runs its checks in the refusal table's order; then a sweep down writes the result, and a sweep up adds to it.
+// No contract asks anything of the caller.
+use checks::Reply;
+use field::Modulus;
+ghost use mathlib.Core.Path.{_≡_};
+ghost use Rattle.table.specs.Words.{table as tab};
+ghost use Rattle.table.specs.Replies.{reply};
+ghost use Rattle.table.specs.Calls.{applyReply, applyAfter, applyTransposedAfter};
+
+pub fn apply(
+    p: u32,
+    n: u32,
+    r: u32,
+    s: u32,
+    table: &[u32],
+    column: &[u32],
+    result: &mut [u32],
+) -> Reply
+    ensures { λ y. ⌜ reply (y .number) (y .buffer) (y .row) (y .value) ≡ applyReply p n (tab r s (now (table .entry))) (now (column .entry)) (now (result .entry)) ⌝ }
+    ensures { λ y. ⌜ now (result .exit) ≡ applyAfter p n (tab r s (now (table .entry))) (now (column .entry)) (now (result .entry)) ⌝ }
+{
+    let y = apply_refusals::check_apply(p, n, r, s, table, column, result.len());
+    if y.number != 0 {
+        return y;
+    }
+    let m = Modulus::new(p);
+    let size = n as usize;
+    let lower = r as usize;
+    let upper = s as usize;
+    let w = checks::row_width(lower, upper);
+    sweeps::sweep_down(m, size, w, table, sweeps::lower(lower), column, result);
+    sweeps::sweep_up(
+        m,
+        size,
+        w,
+        table,
+        sweeps::upper(lower, upper),
+        column,
+        result,
+    );
+    y
+}
+
+pub fn apply_transpose(
+    p: u32,
+    n: u32,
+    r: u32,
+    s: u32,
+    table: &[u32],
+    column: &[u32],
+    result: &mut [u32],
+) -> Reply
+    ensures { λ y. ⌜ reply (y .number) (y .buffer) (y .row) (y .value) ≡ applyReply p n (tab r s (now (table .entry))) (now (column .entry)) (now (result .entry)) ⌝ }
+    ensures { λ y. ⌜ now (result .exit) ≡ applyTransposedAfter p n (tab r s (now (table .entry))) (now (column .entry)) (now (result .entry)) ⌝ }
+{
+    let y = apply_refusals::check_apply(p, n, r, s, table, column, result.len());
+    if y.number != 0 {
+        return y;
+    }
+    let m = Modulus::new(p);
+    let size = n as usize;
+    let lower = r as usize;
+    let upper = s as usize;
+    let w = checks::row_width(lower, upper);
+    sweeps::sweep_down(
+        m,
+        size,
+        w,
+        table,
+        sweeps::transposed(sweeps::upper(lower, upper)),
+        column,
+        result,
+    );
+    sweeps::sweep_up(
+        m,
+        size,
+        w,
+        table,
+        sweeps::transposed(sweeps::lower(lower)),
+        column,
+        result,
+    );
+    y
+}
