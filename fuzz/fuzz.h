@@ -1,0 +1,141 @@
+/* What the parts of the fuzzing program share: calls and buffers, the layout of a table, a trial, the model's answer. */
+#ifndef FUZZ_H
+#define FUZZ_H
+
+#include <stddef.h>
+#include <stdint.h>
+
+#define LARGEST_PRIME 2147483647u
+#define LARGEST_SIZE 1024u
+#define LARGEST_ORDER 8u
+
+/* Up to this size everything is compared with dense matrices. */
+#define DENSE_SIZE 16u
+
+/* The most bytes that a buffer is lent: a matrix of 1,024 rows and some words more. */
+#define MOST_BYTES ((size_t)1 << 22 | 4096u)
+
+/* The numbers of a refusal. */
+enum { ACCEPTED, BAD_PRIME, BAD_SIZE, BAD_ORDER, SHORT_BUFFER, BAD_WORD, BAD_ORDER_SUM, ZERO_PIVOT, BAD_PLACE, BAD_LENGTH, BAD_CHAIN,
+       REPLIES };
+
+enum { ENTRY, MATRIX, APPLY, APPLY_TRANSPOSE, TRANSPOSE, MULTIPLE, SUM, PRODUCT, SOLVE, INVERSE, READ_FILE, WRITE_FILE, CALLS };
+
+/* The buffers; a reply names each by one number more. */
+enum { TABLE, SECOND, COLUMN, WORK, RESULT, FILE_BYTES, BUFFERS };
+
+/* The generators of a row in their order. */
+enum { D, P, A, Q, G, B, H, KINDS };
+
+/* The prime, the size and the orders of a table. */
+typedef struct {
+    uint32_t p, n, r, s;
+} shape;
+
+typedef struct {
+    shape of;
+    const uint32_t *words;
+} table;
+
+/* One call: its numbers, and each buffer's units, words or the bytes of a file, before it. */
+typedef struct {
+    int call;
+    shape first, second;
+    uint32_t i, j, c;
+    int same, empty_is_null;
+    size_t count[BUFFERS];
+    void *before[BUFFERS];
+} trial;
+
+/* What is owed: the reply; of an accepted call the units that it needs, and every unit afterwards of what is written. Where the
+ * result is judged, its words are not owed outright: judge says whether they do. */
+typedef struct {
+    uint64_t reply;
+    size_t needed[BUFFERS];
+    int judged;
+    void *after[BUFFERS];
+} answer;
+
+/* decode.c, fill.c */
+typedef struct {
+    const uint8_t *at, *end;
+} reader;
+uint32_t next_byte(reader *in);
+uint32_t next_word(reader *in);
+uint32_t scramble(uint32_t x);
+void decode(trial *t, const uint8_t *data, size_t size);
+void fill_table(reader *in, shape of, uint32_t *words);
+void fill_words(reader *in, uint32_t p, uint32_t *words, size_t count);
+void aim_pivots(reader *in, shape of, uint32_t *words);
+void fill_spots(reader *in, shape of, uint32_t count_of_spots, uint32_t *words, size_t count);
+void fill_file(reader *in, trial *t);
+shape within_limits(shape of);
+
+/* layout.c */
+uint32_t row_words(shape of);
+size_t table_words(shape of);
+size_t file_bytes(shape of);
+uint32_t rows_of(shape of, int kind);
+uint32_t columns_of(shape of, int kind);
+uint32_t start_of(shape of, int kind);
+int is_idle(shape of, uint32_t k, int kind);
+int is_idle_word(shape of, uint32_t k, uint32_t place);
+uint32_t at(const table *t, uint32_t k, int kind, uint32_t x, uint32_t y);
+shape joined(shape x, shape y);
+shape turned(shape x);
+
+/* calls.c */
+extern const char *const call_names[CALLS];
+int uses(int call, int buffer);
+int is_written(int call, int buffer);
+int refuses(int call, int number);
+size_t unit(int buffer);
+size_t needed_units(const trial *t, int buffer);
+uint64_t run_call(const trial *t, void *const *lent);
+
+/* dense.c, sweeps.c */
+uint32_t times(uint32_t p, uint32_t x, uint32_t y);
+uint32_t plus(uint32_t p, uint32_t x, uint32_t y);
+uint32_t minus(uint32_t p, uint32_t x, uint32_t y);
+uint32_t over(uint32_t p, uint32_t x);
+uint32_t entry(const table *t, uint32_t i, uint32_t j);
+void matrix_of(const table *t, uint32_t *matrix);
+void dense_sends(const uint32_t *matrix, uint32_t p, uint32_t n, const uint32_t *x, uint32_t *y);
+uint32_t dense_solve(uint32_t *matrix, uint32_t p, uint32_t n, uint32_t *column);
+void sends(const table *t, const uint32_t *x, uint32_t *y);
+
+/* A sweep of pivots: f before a row, then the row's pivot m, its v and y. */
+typedef struct {
+    uint32_t f[LARGEST_ORDER][LARGEST_ORDER], m, v[LARGEST_ORDER], y[LARGEST_ORDER];
+} sweep;
+void meet_pivot(const table *t, uint32_t k, sweep *w);
+void leave_row(const table *t, uint32_t k, sweep *w);
+
+/* refusals.c, rowfile.c, answers.c, judge.c */
+uint64_t packed(uint32_t number, uint32_t buffer, uint32_t row, uint32_t value);
+int is_prime(uint32_t p);
+table table_in(const trial *t, int buffer);
+uint64_t refusal(const trial *t);
+uint64_t first_refusal(shape of, int buffer);
+uint32_t file_word(const uint8_t *file, size_t place);
+shape file_shape(const uint8_t *file);
+uint64_t file_refusal(const trial *t);
+void read_rows(shape of, const uint8_t *file, uint32_t *result);
+void write_rows(const table *t, uint8_t *file);
+uint32_t zero_pivot(const trial *t);
+void work_out(const trial *t, answer *owed);
+int judge(const trial *t, const uint32_t *result);
+
+/* lent.c, check.c */
+void open_arenas(void);
+void *lend(int buffer, size_t bytes, int at_end);
+void only_read(int buffer, size_t bytes, int at_end, int yes);
+extern unsigned long tally[CALLS][REPLIES];
+extern char doing[300];
+void check_input(const uint8_t *data, size_t size);
+#define ROWS_TOLD 4
+#define CLASSES (CALLS * REPLIES * (BUFFERS + 1) * ROWS_TOLD)
+unsigned class_of_last(void);
+void print_tally(void);
+
+#endif
