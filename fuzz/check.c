@@ -114,23 +114,16 @@ static void run_at(int at_end)
         }
 }
 
-void check_input(const uint8_t *data, size_t size)
+void check_input(const uint8_t *data, size_t size, uint8_t *seen)
 {
     set_up();
     decode(&now, data, size);
     note(&now, 1);
     work_out(&now, &owed);
     tally[now.call][owed.reply & 255]++;
+    mark_classes(&now, &owed, seen);
     run_at(1);
     run_at(0);
-}
-
-/* Which of the classes of inputs this one was in: by call, number, buffer and row of what is owed. */
-unsigned class_of_last(void)
-{
-    const unsigned number = (unsigned)(owed.reply & 255), buffer = (unsigned)(owed.reply >> 8 & 255);
-    const unsigned row = (unsigned)(owed.reply >> 16 & 65535);
-    return (((unsigned)now.call * REPLIES + number) * (BUFFERS + 1) + buffer) * ROWS_TOLD + (row < ROWS_TOLD ? row : ROWS_TOLD - 1);
 }
 
 void print_tally(void)

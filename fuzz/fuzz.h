@@ -115,10 +115,13 @@ void leave_row(const table *t, uint32_t k, sweep *w);
 uint64_t packed(uint32_t number, uint32_t buffer, uint32_t row, uint32_t value);
 int is_prime(uint32_t p);
 table table_in(const trial *t, int buffer);
+uint32_t bad_row(const table *in);
+uint32_t bad_column_row(const trial *t);
 uint64_t refusal(const trial *t);
 uint64_t first_refusal(shape of, int buffer);
 uint32_t file_word(const uint8_t *file, size_t place);
 shape file_shape(const uint8_t *file);
+uint32_t follow(shape of, const uint8_t *file, uint32_t *numbers);
 uint64_t file_refusal(const trial *t);
 void read_rows(shape of, const uint8_t *file, uint32_t *result);
 void write_rows(const table *t, uint8_t *file);
@@ -126,16 +129,17 @@ uint32_t zero_pivot(const trial *t);
 void work_out(const trial *t, answer *owed);
 int judge(const trial *t, const uint32_t *result);
 
+/* classes.c: a byte of seen for each class. */
+#define CLASSES 10260u
+void mark_classes(const trial *t, const answer *owed, uint8_t *seen);
+
 /* lent.c, check.c */
 void open_arenas(void);
 void *lend(int buffer, size_t bytes, int at_end);
 void only_read(int buffer, size_t bytes, int at_end, int yes);
 extern unsigned long tally[CALLS][REPLIES];
 extern char doing[300];
-void check_input(const uint8_t *data, size_t size);
-#define ROWS_TOLD 4
-#define CLASSES (CALLS * REPLIES * (BUFFERS + 1) * ROWS_TOLD)
-unsigned class_of_last(void);
+void check_input(const uint8_t *data, size_t size, uint8_t *seen);
 void print_tally(void);
 
 #endif

@@ -1,4 +1,5 @@
-/* Replays inputs, each a line of digits to base 16; fails where some call is never accepted or never gives one of its refusals. */
+/* Replays inputs, each a line of digits to base 16; fails where some call is never accepted or never gives one of its refusals.
+ * replay INPUTS prints how often each reply came, replay INPUTS quiet does not. */
 #include <signal.h>
 #include <stdio.h>
 #include <string.h>
@@ -7,7 +8,7 @@
 #include "fuzz.h"
 
 static char line[1 << 17];
-static uint8_t data[sizeof line / 2];
+static uint8_t data[sizeof line / 2], seen[CLASSES];
 
 /* A touch of memory that may not be touched, or a word that is not the model's, ends here. */
 static void stopped(int signal_number)
@@ -44,7 +45,7 @@ static unsigned long replay(FILE *text)
     while (fgets(line, sizeof line, text) != NULL) {
         if (!is_input())
             return 0;
-        check_input(data, strlen(line) / 2);
+        check_input(data, strlen(line) / 2, seen);
         count++;
     }
     return count;
@@ -62,9 +63,17 @@ static int is_complete(void)
     return complete;
 }
 
+static unsigned classes_seen(void)
+{
+    unsigned count = 0, k;
+    for (k = 0; k < CLASSES; k++)
+        count += seen[k];
+    return count;
+}
+
 int main(int count, char **names)
 {
-    FILE *text = count == 2 ? fopen(names[1], "r") : NULL;
+    FILE *text = count >= 2 ? fopen(names[1], "r") : NULL;
     unsigned long inputs;
     signal(SIGSEGV, stopped);
     signal(SIGBUS, stopped);
@@ -76,9 +85,10 @@ int main(int count, char **names)
         return 1;
     }
     fclose(text);
-    print_tally();
+    if (count == 2)
+        print_tally();
     if (!is_complete())
         return 1;
-    printf("replay: %lu inputs, each at the end and at the beginning of its memory\n", inputs);
+    printf("replay: %lu inputs of %u classes, each at the end and at the beginning of its memory\n", inputs, classes_seen());
     return 0;
 }

@@ -25,7 +25,7 @@ static size_t record(shape of, uint32_t number)
 }
 
 /* The numbers of the records of rows 1 to n; how many could be read, and n + 1 where the chain also ends there. */
-static uint32_t follow(shape of, const uint8_t *file, uint32_t *numbers)
+uint32_t follow(shape of, const uint8_t *file, uint32_t *numbers)
 {
     uint32_t number = file_word(file, 4), k;
     for (k = 0; k < of.n; k++) {

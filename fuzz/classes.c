@@ -1,0 +1,164 @@
+/* Classes of inputs that the fuzzer is led to, though they may run the same code: pairs of causes of refusal that hold together,
+ * what a reply names, surplus, sizes and orders. They lead the fuzzer and judge nothing. */
+#include "fuzz.h"
+
+/* Causes, told apart by buffer. */
+enum { PRIME, SIZE, FIRST_ORDER, SECOND_ORDER, PLACE, ORDER_SUM, SHORT, FACTOR = SHORT + BUFFERS, WORD, PIVOT = WORD + 3, UNDER_20,
+       LENGTH, CHAIN, FILE_WORD, CAUSES };
+
+static uint8_t *counters;
+
+/* Marks the class that the numbers give, each below its limit, from a start on; where the next classes start. */
+static unsigned mark(unsigned start, const unsigned *numbers, const unsigned *limits, int count)
+{
+    unsigned place = 0, size = 1;
+    int k;
+    for (k = 0; k < count; k++) {
+        place = place * limits[k] + (numbers[k] < limits[k] ? numbers[k] : limits[k] - 1);
+        size *= limits[k];
+    }
+    counters[(start + place) % CLASSES] = 1;
+    return start + size;
+}
+
+static uint32_t add_if(int holds, int cause)
+{
+    return holds ? (uint32_t)1 << cause : 0;
+}
+
+static int is_above(shape of)
+{
+    return of.r > LARGEST_ORDER || of.s > LARGEST_ORDER;
+}
+
+static uint32_t causes_of_numbers(const trial *t, shape of)
+{
+    const int two = t->call == SUM || t->call == PRODUCT;
+    const uint64_t r = (uint64_t)of.r + t->second.r, s = (uint64_t)of.s + t->second.s;
+    return add_if(!is_prime(of.p), PRIME) | add_if(of.n < 1 || of.n > LARGEST_SIZE, SIZE) | add_if(is_above(of), FIRST_ORDER) |
+           add_if(two && is_above(t->second), SECOND_ORDER) | add_if(two && (r > LARGEST_ORDER || s > LARGEST_ORDER), ORDER_SUM) |
+           add_if(t->call == ENTRY && (t->i < 1 || t->i > of.n || t->j < 1 || t->j > of.n), PLACE);
+}
+
+/* Of a buffer that is lent for numbers within limits: too short, or with a bad word. */
+static uint32_t causes_of_buffer(const trial *t, int buffer)
+{
+    const table in = table_in(t, buffer);
+    if (!uses(t->call, buffer))
+        return 0;
+    if (t->count[buffer] < needed_units(t, buffer))
+        return add_if(1, SHORT + buffer);
+    if (buffer > COLUMN)
+        return 0;
+    return add_if((buffer == COLUMN ? bad_column_row(t) : bad_row(&in)) != 0, WORD + buffer);
+}
+
+static uint32_t causes_of_file(const trial *t)
+{
+    const uint8_t *file = t->before[FILE_BYTES];
+    const size_t bytes = t->count[FILE_BYTES];
+    uint32_t numbers[LARGEST_SIZE], causes;
+    shape of;
+    if (bytes < 20)
+        return add_if(1, UNDER_20);
+    of = file_shape(file);
+    causes = causes_of_numbers(t, of);
+    if ((causes & ~add_if(1, PRIME)) != 0)
+        return causes;
+    causes |= add_if(bytes != file_bytes(of), LENGTH) | add_if(t->count[RESULT] < table_words(of), SHORT + RESULT);
+    if (bytes < file_bytes(of))
+        return causes;
+    return causes | add_if(follow(of, file, numbers) <= of.n, CHAIN) | add_if(file_word(file, 6) >= of.p, FILE_WORD);
+}
+
+static uint32_t all_causes(const trial *t, const answer *owed)
+{
+    uint32_t causes;
+    int buffer;
+    if (t->call == READ_FILE)
+        return causes_of_file(t);
+    causes = causes_of_numbers(t, t->first) | add_if((owed->reply & 255) == ZERO_PIVOT, PIVOT);
+    if ((causes & ~(add_if(1, PRIME) | add_if(1, PLACE) | add_if(1, ORDER_SUM))) != 0)
+        return causes;
+    for (buffer = 0; buffer < BUFFERS; buffer++)
+        causes |= causes_of_buffer(t, buffer);
+    return causes | add_if(t->call == MULTIPLE && t->c >= t->first.p, FACTOR);
+}
+
+/* Whether every used word of the first rows is close to the prime, so that sums of products are large. */
+static int is_high(const table *in)
+{
+    const uint32_t words = row_words(in->of);
+    uint32_t k, place;
+    for (k = 1; k <= in->of.n && k <= 4; k++)
+        for (place = 0; place < words; place++)
+            if (in->words[(size_t)(k - 1) * words + place] < in->of.p - 3 && !is_idle_word(in->of, k, place))
+                return 0;
+    return in->of.p > LARGEST_PRIME / 2;
+}
+
+/* Whether most words of all that is read are not 0, so that a wrong row shows. */
+static int is_rich(const trial *t, const answer *owed)
+{
+    int buffer;
+    for (buffer = TABLE; buffer <= COLUMN; buffer++) {
+        const uint32_t *words = t->before[buffer];
+        size_t zeros = 0, k;
+        for (k = 0; k < owed->needed[buffer]; k++)
+            zeros += words[k] == 0;
+        if (4 * zeros > 3 * owed->needed[buffer])
+            return 0;
+    }
+    return 1;
+}
+
+/* 0 to 7, so that 1, 2, small, dense, larger and the largest two sizes are told apart. */
+static unsigned kind_of_size(uint32_t n)
+{
+    return n <= 2 ? n - 1 : n <= 8 ? 2 : n <= DENSE_SIZE ? 3 : n <= 64 ? 4 : n < 1023 ? 5 : n - 1017;
+}
+
+static unsigned kind_of_order(uint32_t order)
+{
+    return order < 2 ? order : order < 5 ? 2 : 3;
+}
+
+static void mark_accepted(const trial *t, const answer *owed, unsigned start)
+{
+    const unsigned call = (unsigned)t->call, null_limits[3] = {CALLS, 2, 2}, size_limits[4] = {CALLS, 8, 2, 2};
+    const unsigned order_limits[5] = {CALLS, 2, 4, 4, 2}, surplus_limits[2] = {CALLS, BUFFERS};
+    const shape of = t->call == READ_FILE ? file_shape(t->before[FILE_BYTES]) : t->first;
+    const table in = table_in(t, TABLE);
+    const unsigned high = uses(t->call, TABLE) && is_high(&in), large = of.p > 65537;
+    const unsigned nulls[3] = {call, (unsigned)t->empty_is_null, (unsigned)t->same};
+    const unsigned sizes[4] = {call, kind_of_size(of.n), large, (unsigned)is_rich(t, owed)};
+    const unsigned orders[5] = {call, large, kind_of_order(of.r), kind_of_order(of.s), high};
+    unsigned buffer;
+    start = mark(start, nulls, null_limits, 3);
+    start = mark(start, sizes, size_limits, 4);
+    start = mark(start, orders, order_limits, 5);
+    for (buffer = 0; buffer < BUFFERS; buffer++) {
+        const unsigned surplus[2] = {call, buffer};
+        if (t->count[buffer] > owed->needed[buffer])
+            mark(start, surplus, surplus_limits, 2);
+    }
+}
+
+void mark_classes(const trial *t, const answer *owed, uint8_t *seen)
+{
+    const unsigned number = (unsigned)(owed->reply & 255), buffer = (unsigned)(owed->reply >> 8 & 255);
+    const unsigned told[4] = {(unsigned)t->call, number, buffer, (unsigned)(owed->reply >> 16 & 65535)};
+    const unsigned told_limits[4] = {CALLS, REPLIES, BUFFERS + 1, 4}, pair_limits[3] = {CALLS, CAUSES, CAUSES};
+    const uint32_t causes = all_causes(t, owed);
+    unsigned start, one, two;
+    counters = seen;
+    start = mark(0, told, told_limits, 4);
+    for (one = 0; one < CAUSES; one++)
+        for (two = 0; two < one; two++) {
+            const unsigned pair[3] = {(unsigned)t->call, one, two};
+            if ((causes >> one & causes >> two & 1) != 0)
+                mark(start, pair, pair_limits, 3);
+        }
+    if (number == ACCEPTED)
+        mark_accepted(t, owed, start + CALLS * CAUSES * CAUSES);
+}
