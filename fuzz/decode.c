@@ -1,4 +1,4 @@
-/* From an input's bytes to a call, its numbers and its buffers. Every input stands for some trial: past its end all bytes are 0. */
+/* From an input's bytes to a call, its numbers and its buffers. Every input stands for a trial: past its end all bytes are 0. */
 #include <string.h>
 
 #include "fuzz.h"

@@ -16,8 +16,8 @@
 #define MOST_BYTES ((size_t)1 << 22 | 4096u)
 
 /* The numbers of a refusal. */
-enum { ACCEPTED, BAD_PRIME, BAD_SIZE, BAD_ORDER, SHORT_BUFFER, BAD_WORD, BAD_ORDER_SUM, ZERO_PIVOT, BAD_PLACE, BAD_LENGTH, BAD_CHAIN,
-       REPLIES };
+enum { ACCEPTED, BAD_PRIME, BAD_SIZE, BAD_ORDER, SHORT_BUFFER, BAD_WORD, BAD_ORDER_SUM, ZERO_PIVOT, BAD_PLACE, BAD_LENGTH,
+       BAD_CHAIN, REPLIES };
 
 enum { ENTRY, MATRIX, APPLY, APPLY_TRANSPOSE, TRANSPOSE, MULTIPLE, SUM, PRODUCT, SOLVE, INVERSE, READ_FILE, WRITE_FILE, CALLS };
 
@@ -141,5 +141,9 @@ extern unsigned long tally[CALLS][REPLIES];
 extern char doing[300];
 void check_input(const uint8_t *data, size_t size, uint8_t *seen);
 void print_tally(void);
+
+/* coverage.c */
+void note_edges(void);
+void print_edges(void);
 
 #endif

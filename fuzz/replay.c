@@ -7,13 +7,20 @@
 
 #include "fuzz.h"
 
+/* With coverage.c beside this file the edges are counted. */
+#ifndef COVERAGE
+#define note_edges() ((void)0)
+#define print_edges() ((void)0)
+#endif
+
 static char line[1 << 17];
 static uint8_t data[sizeof line / 2], seen[CLASSES];
 
 /* A touch of memory that may not be touched, or a word that is not the model's, ends here. */
 static void stopped(int signal_number)
 {
-    const char *const parts[] = {doing, signal_number == SIGABRT ? ": differs on input " : ": memory was touched on input ", line};
+    const char *const what = signal_number == SIGABRT ? ": differs on input " : ": memory was touched on input ";
+    const char *const parts[] = {doing, what, line};
     size_t k;
     for (k = 0; k < sizeof parts / sizeof *parts; k++)
         if (write(1, parts[k], strlen(parts[k])) < 0)
@@ -46,6 +53,7 @@ static unsigned long replay(FILE *text)
         if (!is_input())
             return 0;
         check_input(data, strlen(line) / 2, seen);
+        note_edges();
         count++;
     }
     return count;
@@ -87,6 +95,7 @@ int main(int count, char **names)
     fclose(text);
     if (count == 2)
         print_tally();
+    print_edges();
     if (!is_complete())
         return 1;
     printf("replay: %lu inputs of %u classes, each at the end and at the beginning of its memory\n", inputs, classes_seen());
