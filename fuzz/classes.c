@@ -1,10 +1,10 @@
-/* Classes of inputs that the fuzzer is led to, though they may run the same code: pairs of causes of refusal that hold together,
+/* Classes of inputs that the fuzzer is led to, though they may run the same code: the first cause of a refusal and another,
  * what a reply names, surplus, sizes and orders. They lead the fuzzer and judge nothing. */
 #include "fuzz.h"
 
-/* Causes, told apart by buffer. */
-enum { PRIME, SIZE, FIRST_ORDER, SECOND_ORDER, PLACE, ORDER_SUM, SHORT, FACTOR = SHORT + BUFFERS, WORD, PIVOT = WORD + 3,
-       UNDER_20, LENGTH, CHAIN, FILE_WORD, CAUSES };
+/* Causes, told apart by buffer, in an order that is every call's. */
+enum { UNDER_20, PRIME, SIZE, FIRST_ORDER, SECOND_ORDER, PLACE, ORDER_SUM, LENGTH, SHORT, CHAIN = SHORT + BUFFERS, FILE_WORD,
+       FACTOR, WORD, PIVOT = WORD + 3, CAUSES };
 
 static uint8_t *counters;
 
@@ -71,17 +71,19 @@ static uint32_t causes_of_file(const trial *t)
     return causes | add_if(follow(of, file, numbers) <= of.n, CHAIN) | add_if(file_word(file, 6) >= of.p, FILE_WORD);
 }
 
-static uint32_t all_causes(const trial *t, const answer *owed)
+static uint32_t all_causes(const trial *t)
 {
     uint32_t causes;
     int buffer;
     if (t->call == READ_FILE)
         return causes_of_file(t);
-    causes = causes_of_numbers(t, t->first) | add_if((owed->reply & 255) == ZERO_PIVOT, PIVOT);
+    causes = causes_of_numbers(t, t->first);
     if ((causes & ~(add_if(1, PRIME) | add_if(1, PLACE) | add_if(1, ORDER_SUM))) != 0)
         return causes;
     for (buffer = 0; buffer < BUFFERS; buffer++)
         causes |= causes_of_buffer(t, buffer);
+    if (refuses(t->call, ZERO_PIVOT) && (causes & (add_if(1, PRIME) | add_if(1, SHORT + TABLE) | add_if(1, WORD + TABLE))) == 0)
+        causes |= add_if(zero_pivot(t) != 0, PIVOT);
     return causes | add_if(t->call == MULTIPLE && t->c >= t->first.p, FACTOR);
 }
 
@@ -149,16 +151,17 @@ void mark_classes(const trial *t, const answer *owed, uint8_t *seen)
     const unsigned number = (unsigned)(owed->reply & 255), buffer = (unsigned)(owed->reply >> 8 & 255);
     const unsigned told[4] = {(unsigned)t->call, number, buffer, (unsigned)(owed->reply >> 16 & 65535)};
     const unsigned told_limits[4] = {CALLS, REPLIES, BUFFERS + 1, 4}, pair_limits[3] = {CALLS, CAUSES, CAUSES};
-    const uint32_t causes = all_causes(t, owed);
-    unsigned start, one, two;
+    const uint32_t causes = all_causes(t);
+    unsigned start, first = 0, other;
     counters = seen;
     start = mark(0, told, told_limits, 4);
-    for (one = 0; one < CAUSES; one++)
-        for (two = 0; two < one; two++) {
-            const unsigned pair[3] = {(unsigned)t->call, one, two};
-            if ((causes >> one & causes >> two & 1) != 0)
-                mark(start, pair, pair_limits, 3);
-        }
+    while (first < CAUSES && (causes >> first & 1) == 0)
+        first++;
+    for (other = first + 1; other < CAUSES; other++) {
+        const unsigned pair[3] = {(unsigned)t->call, first, other};
+        if ((causes >> other & 1) != 0)
+            mark(start, pair, pair_limits, 3);
+    }
     if (number == ACCEPTED)
         mark_accepted(t, owed, start + CALLS * CAUSES * CAUSES);
 }
