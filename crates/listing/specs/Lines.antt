@@ -13,12 +13,12 @@ pub record Puts (at : ℕ) (t a b : List ℕ) (v : ℕ) : Type 0 where
   pub ends : v ≡ at + length t
   pub words : (pre d : List ℕ) → length pre ≡ at → a ≡ pre ++ drop at d → b ≡ (pre ++ t) ++ drop v d
 
--- the first line of a listing; a row of the matrix, by its words; the last line
+-- the first line of a listing; a row of the matrix, by its words; the last line, by the row of the first zero pivot
 abbrev pub headLine : (P N r s : ℕ) → List ℕ
 headLine P N r s = named "prime" P ++ text " " ++ named "size" N ++ text " " ++ named "lower" r ++ text " " ++ named "upper" s ++ text "\n"
 
 abbrev pub rowLine : (N : ℕ) → List ℕ → List ℕ
 rowLine N row = rowsOf N (λ j. pick (eqb j 0) [] (text " ") ++ decimal (getD row j 0)) ++ text "\n"
 
-abbrev pub lastLine : (zero : ℕ) → List ℕ
-lastLine zero = pick (eqb zero 0) (text "regular") (named "singular" zero) ++ text "\n"
+abbrev pub lastLine : (row : ℕ) → List ℕ
+lastLine row = pick (eqb row 0) (text "regular") (named "singular" row) ++ text "\n"
