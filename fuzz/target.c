@@ -1,4 +1,5 @@
 /* The fuzzer's entry: libFuzzer hands in an input, and what ran is told at the end. */
+#include <stdio.h>
 #include <stdlib.h>
 
 #include "fuzz.h"
@@ -12,7 +13,7 @@ int LLVMFuzzerTestOneInput(const uint8_t *data, size_t size)
 {
     static int counting;
     if (!counting)
-        counting = atexit(print_tally) == 0;
+        counting = atexit(print_tally) == 0 && setvbuf(stdout, NULL, _IOLBF, 0) == 0;
     check_input(data, size, seen);
     return 0;
 }
