@@ -48,9 +48,6 @@ module _ {P N : ℕ} {A : Table} {cs : List Check} {y x : Reply} (c : PivotCall 
             seven n e z = omega arith
 
         module _ (h : row ≤ 0) where
-          pub none-zero : firstZero m N A ≡ 0
-          none-zero = let z : row ≡ 0 = omega arith in sym f ∙ z
-
           pub none-answers : x ≡ y
           none-answers = first-pass cs x (c .answered) (c .refuses) ok (checkPivots P N A ∷ []) (accept 0) (next _ [] (accept 0) (row-none row (firstZero P N A) found h) (last (first-accept cs x (c .answered) (c .refuses) ok))) ∙ sym (c .owed)
 

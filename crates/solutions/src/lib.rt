@@ -48,10 +48,11 @@ pub fn inverse(p: u32, n: u32, r: u32, s: u32, table: &[u32], result: &mut [u32]
     let size = n as usize;
     let lower = r as usize;
     let upper = s as usize;
-    let zero = pivots::first_zero(m, size, lower, upper, table);
+    let mut inverses = [0u32; 1024];
+    let zero = pivots::first_zero(m, size, lower, upper, table, &mut inverses);
     if 0 < zero {
         return checks::refuse(7, 1, zero as u32);
     }
-    inverses::inverse(m, size, lower, upper, table, result);
+    inverses::inverse(m, size, lower, upper, table, &inverses, result);
     checked
 }

@@ -13,7 +13,7 @@ use Rattle.checks.specs.CheckLaws.{reply-is}
 use Rattle.checks.specs.Passed.{inverse-passed}
 use Rattle.calls.specs.Finish.{refused-leaves}
 use Rattle.solutions.specs.PivotCall.{PivotCall}
-use Rattle.solutions.specs.PivotCallLaws.{inverse-call, early-refused, early-clear, pivot-prime, pivot-good, zero-refused, none-zero, none-answers, none-accepts, inverse-leaves}
+use Rattle.solutions.specs.PivotCallLaws.{inverse-call, early-refused, early-clear, pivot-prime, pivot-good, zero-refused, none-answers, none-accepts, inverse-leaves}
 use Rattle.solutions.proofs.inverse.Statement.{statement}
 use Rattle.solutions.proofs.inverse.Tie as tie
 
@@ -33,12 +33,13 @@ inverse-spec =
     (λ c κs. search needs)
     (λ c. let a = c .before .before .before .before .before .args in let z = early-refused (checked (c .before .before)) (c .if1 .taken) in (z .0, refused-leaves (inverseReply (a .p) (a .n) (table (a .r) (a .s) (now (a .table))) (now (a .result))) (inverseW (a .p) (a .n) (table (a .r) (a .s) (now (a .table)))) (now (a .result)) (z .1)))
     (λ c κs. pivot-prime (checked (c .before .before)) (c .if1 .left))
-    (λ c κs. (c .new .ensures .1, pivot-good (checked (c .before .before .before)) (c .before .if1 .left) _ (c .new .ensures .0)))
-    (λ c. omega (arith, c .before .first-zero .ensures .1))
-    (λ c κs. search needs)
-    (λ c. let a = c .before .before .before .before .before .before .before .before .before .args in let z = zero-refused (checked (c .before .before .before .before .before .before)) (c .before .before .before .before .if1 .left) _ (c .before .before .before .new .ensures .0) _ (c .before .before .first-zero .ensures .0) (c .before .if2 .taken) (reply-is (c .refuse .ensures)) in (z .0, refused-leaves (inverseReply (a .p) (a .n) (table (a .r) (a .s) (now (a .table))) (now (a .result))) (inverseW (a .p) (a .n) (table (a .r) (a .s) (now (a .table)))) (now (a .result)) (z .1)))
-    (λ c κs. let k = checked (c .before .before .before .before .before .before) in let ok = c .before .before .before .before .if1 .left in let em = c .before .before .before .new .ensures .0 in
-    (c .before .before .before .new .ensures .1, pivot-good k ok _ em, none-zero k ok _ em _ (c .before .before .first-zero .ensures .0) (c .before .if2 .left), room (c .before .before .before .before .before .before) (c .before .before .before .before .if1 .left)))
     (λ c. search needs)
-    (λ c. let a = c .before .before .before .before .before .before .before .before .before .before .before .before .args in let k = checked (c .before .before .before .before .before .before .before .before .before) in let ok = c .before .before .before .before .before .before .before .if1 .left in let em = c .before .before .before .before .before .before .new .ensures .0 in let f = c .before .before .before .before .before .first-zero .ensures .0 in let h = c .before .before .before .before .if2 .left in
+    (λ c κs. (c .before .new .ensures .1, pivot-good (checked (c .before .before .before .before)) (c .before .before .if1 .left) _ (c .before .new .ensures .0), omega (arith, pivot-good (checked (c .before .before .before .before)) (c .before .before .if1 .left) _ (c .before .new .ensures .0) .most)))
+    (λ c. omega (arith, c .before .before .first-zero .ensures .1))
+    (λ c κs. search needs)
+    (λ c. let a = c .before .before .before .before .before .before .before .before .before .before .before .args in let z = zero-refused (checked (c .before .before .before .before .before .before .before .before)) (c .before .before .before .before .before .before .if1 .left) _ (c .before .before .before .before .before .new .ensures .0) _ (c .before .before .before .first-zero .ensures .0) (c .before .if2 .taken) (reply-is (c .refuse .ensures)) in (z .0, refused-leaves (inverseReply (a .p) (a .n) (table (a .r) (a .s) (now (a .table))) (now (a .result))) (inverseW (a .p) (a .n) (table (a .r) (a .s) (now (a .table)))) (now (a .result)) (z .1)))
+    (λ c. search needs)
+    (λ c κs. (c .before .before .before .before .before .before .new .ensures .1, pivot-good (checked (c .before .before .before .before .before .before .before .before .before)) (c .before .before .before .before .before .before .before .if1 .left) _ (c .before .before .before .before .before .before .new .ensures .0), (_, c .before .before .before .before .first-zero .ensures .2 (omega (arith, c .before .before .if2 .left))), room (c .before .before .before .before .before .before .before .before .before) (c .before .before .before .before .before .before .before .if1 .left)))
+    (λ c. search needs)
+    (λ c. let a = c .before .before .before .before .before .before .before .before .before .before .before .before .before .before .before .args in let k = checked (c .before .before .before .before .before .before .before .before .before .before .before .before) in let ok = c .before .before .before .before .before .before .before .before .before .before .if1 .left in let em = c .before .before .before .before .before .before .before .before .before .new .ensures .0 in let f = c .before .before .before .before .before .before .before .first-zero .ensures .0 in let h = c .before .before .before .before .before .if2 .left in
     (none-answers k ok _ em _ f h, inverse-leaves (a .n) (table (a .r) (a .s) (now (a .table))) (now (a .result)) _ (a .p) em (c .before .before .inverse .ensures) (inverseReply (a .p) (a .n) (table (a .r) (a .s) (now (a .table))) (now (a .result))) (none-accepts k ok _ em _ f h))))
