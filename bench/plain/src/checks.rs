@@ -3,7 +3,7 @@
 use crate::residue::is_prime;
 use crate::table::{Row, Shape, LARGEST_ORDER};
 
-const LARGEST_SIZE: u32 = 1024;
+pub const LARGEST_SIZE: usize = 1024;
 
 /// Why a call did nothing: the number, and beside it a buffer and a row.
 #[derive(Clone, Copy, Debug, PartialEq)]
@@ -29,7 +29,7 @@ pub fn shape(p: u32, n: u32, r: u32, s: u32) -> Result<Shape, Refusal> {
 /// The shape of a table whose orders belong to the given buffer.
 pub fn shape_in(buffer: u32, p: u32, n: u32, r: u32, s: u32) -> Result<Shape, Refusal> {
     refuse(!is_prime(p), 1, 0, 0)?;
-    refuse(!(1..=LARGEST_SIZE).contains(&n), 2, 0, 0)?;
+    refuse(!(1..=LARGEST_SIZE as u32).contains(&n), 2, 0, 0)?;
     refuse(is_above(r) || is_above(s), 3, buffer, 0)?;
     Ok(Shape { p, n: n as usize, r: r as usize, s: s as usize })
 }
