@@ -53,6 +53,9 @@ class Refused(ValueError):
         self.name, cause = CAUSES[number]
         super().__init__("refused %d, %s: %s (%s, row %d)" % (number, self.name, cause, BUFFERS[buffer], row))
 
+    def __reduce__(self):
+        return Refused, (self.number, self.buffer, self.row)
+
 
 class BadArgument(ValueError):
     """An argument that cannot be handed to the library: no whole number from 0 to 4294967295, no sequence of such, no bytes."""
@@ -112,13 +115,14 @@ def _numbers(**named):
 
 
 def _words(name, words):
-    """The words as a buffer for the library."""
+    """The words as a buffer for the library. The first that is none is named."""
     try:
-        listed = list(words)
+        words = iter(words)
     except TypeError:
         raise BadArgument("%s is %r, no sequence of words" % (name, words)) from None
+    listed = list(words)
     try:
-        checked = array.array("I", listed)
+        checked = array.array("I", map(operator.index, listed))
     except (TypeError, OverflowError):
         checked = array.array("I", [_number("%s[%d]" % (name, place), word) for place, word in enumerate(listed)])
     return (ctypes.c_uint32 * len(checked)).from_buffer(checked)
@@ -177,7 +181,7 @@ def entry(p, n, r, s, i, j, table):
 def matrix(p, n, r, s, table):
     """The whole matrix, as a list of n rows."""
     numbers = _numbers(p=p, n=n, r=r, s=s)
-    rows = min(n, LARGEST_SIZE)
+    rows = min(numbers[1], LARGEST_SIZE)
     result = _blank(rows * rows)
     _run("matrix", numbers, _words("table", table), result)
     return [result[k * rows:(k + 1) * rows] for k in range(rows)]
@@ -195,36 +199,39 @@ def apply_transpose(p, n, r, s, table, column):
 
 def transpose(p, n, r, s, table):
     """The transposed table, of orders s and r."""
-    return _table_call("transpose", _numbers(p=p, n=n, r=r, s=s), (n, s, r), table=table)
+    _, n, r, s = numbers = _numbers(p=p, n=n, r=r, s=s)
+    return _table_call("transpose", numbers, (n, s, r), table=table)
 
 
 def multiple(p, n, r, s, c, table):
     """The table of c times the matrix."""
-    return _table_call("multiple", _numbers(p=p, n=n, r=r, s=s, c=c), (n, r, s), table=table)
+    _, n, r, s, _ = numbers = _numbers(p=p, n=n, r=r, s=s, c=c)
+    return _table_call("multiple", numbers, (n, r, s), table=table)
 
 
 def sum(p, n, r1, s1, r2, s2, first, second):
     """The table of the sum, of orders r1 + r2 and s1 + s2."""
-    numbers = _numbers(p=p, n=n, r1=r1, s1=s1, r2=r2, s2=s2)
+    _, n, r1, s1, r2, s2 = numbers = _numbers(p=p, n=n, r1=r1, s1=s1, r2=r2, s2=s2)
     return _table_call("sum", numbers, (n, r1 + r2, s1 + s2), first=first, second=second)
 
 
 def product(p, n, r1, s1, r2, s2, first, second):
     """The table of the first matrix times the second, of orders r1 + r2 and s1 + s2."""
-    numbers = _numbers(p=p, n=n, r1=r1, s1=s1, r2=r2, s2=s2)
+    _, n, r1, s1, r2, s2 = numbers = _numbers(p=p, n=n, r1=r1, s1=s1, r2=r2, s2=s2)
     return _table_call("product", numbers, (n, r1 + r2, s1 + s2), first=first, second=second)
 
 
 def solve(p, n, r, s, table, column):
     """The column that the table sends to the given one."""
-    numbers = _numbers(p=p, n=n, r=r, s=s)
+    _, n, _, s = numbers = _numbers(p=p, n=n, r=r, s=s)
     work = _blank(min(n, LARGEST_SIZE) * min(s, LARGEST_ORDER))
     return _column_call("solve", numbers, table, column, work)
 
 
 def inverse(p, n, r, s, table):
     """The table of the inverse matrix, of the same orders."""
-    return _table_call("inverse", _numbers(p=p, n=n, r=r, s=s), (n, r, s), table=table)
+    _, n, r, s = numbers = _numbers(p=p, n=n, r=r, s=s)
+    return _table_call("inverse", numbers, (n, r, s), table=table)
 
 
 def read_file(file):
@@ -238,7 +245,7 @@ def read_file(file):
 
 def write_file(p, n, r, s, table):
     """The row file of the table, as bytes."""
-    numbers = _numbers(p=p, n=n, r=r, s=s)
+    _, n, r, s = numbers = _numbers(p=p, n=n, r=r, s=s)
     file = (ctypes.c_uint8 * file_bytes(*_limited(n, r, s)))()
     _run("write_file", numbers, _words("table", table), file)
     return bytes(file)
