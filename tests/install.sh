@@ -1,7 +1,8 @@
 # A part of tests/run: installs the built library and the lister, uses what was installed, and takes it away again.
 
-# A prefix with a blank in it, from a folder that it is relative to, where an empty folder and a file were before.
+# A prefix with a blank and a # in it, from a folder that it is relative to, where an empty folder and a file were before.
 installed="$build/to install"
+name="some # prefix"
 
 owe_same() {
     [ "$1" = "$2" ] || { echo "'$1' is owed, not '$2'"; exit 1; }
@@ -9,11 +10,11 @@ owe_same() {
 
 install_there() {
     rm -rf "$installed"
-    mkdir -p "$installed/some prefix/include" "$installed/some prefix/bin"
-    echo kept > "$installed/some prefix/include/other.h"
-    (cd "$installed" && "$here/../install" --built "$lib/libresidues.a" "$lister" "some prefix" > "$build/printed")
+    mkdir -p "$installed/$name/include" "$installed/$name/bin"
+    echo kept > "$installed/$name/include/other.h"
+    (cd "$installed" && "$here/../install" --built "$lib/libresidues.a" "$lister" "$name" > "$build/printed")
     # Again, over itself.
-    (cd "$installed" && "$here/../install" --built "$lib/libresidues.a" "$lister" "some prefix" > "$build/printed")
+    (cd "$installed" && "$here/../install" --built "$lib/libresidues.a" "$lister" "$name" > "$build/printed")
 }
 
 use_pkg_config() {
@@ -22,15 +23,15 @@ use_pkg_config() {
         echo "no pkg-config here: left out"
         return
     fi
-    flags=$(PKG_CONFIG_PATH="$installed/some prefix/lib/pkgconfig" pkg-config --cflags --libs residues)
+    flags=$(PKG_CONFIG_PATH="$installed/$name/lib/pkgconfig" pkg-config --cflags --libs residues)
     eval "cc $flags \"\$here/../examples/apply.c\" -o \"\$build/apply-shared\"" || { echo "pkg-config says: $flags"; exit 1; }
     readelf -d "$build/apply-shared" | grep 'NEEDED.*\[libresidues\.so\.1\]' > "$build/printed" ||
         { echo "the program does not ask for libresidues.so.1"; exit 1; }
-    owe_same "4 4 5" "$(LD_LIBRARY_PATH="$installed/some prefix/lib" "$build/apply-shared")"
+    owe_same "4 4 5" "$(LD_LIBRARY_PATH="$installed/$name/lib" "$build/apply-shared")"
 }
 
 use_python() {
-    local prefix="$installed/some prefix" printed
+    local prefix="$installed/$name" printed
     if ! command -v python3 > /dev/null; then
         echo "no python3 here: left out"
         return
@@ -40,17 +41,41 @@ use_python() {
     owe_same "[2, 3] $prefix/share/residues/python/residues.py" "$printed"
 }
 
+# Words that are none of install's, and files that are not there: nothing is made.
+refuse_odd_words() {
+    local status words
+    for words in "--other" "--remove --other" "--built" "--built a b --other" "a b" "--remove a b" "--built $lib/libresidues.a none new"; do
+        status=0
+        # shellcheck disable=SC2086
+        (cd "$installed" && "$here/../install" $words > "$build/printed" 2>&1) || status=$?
+        [ $status -ne 0 ] || { echo "install takes '$words'"; exit 1; }
+    done
+    owe_same "" "$(ls -A "$installed")"
+}
+
+# A prefix whose folders above it do not stand either: they go again too.
+install_deep() {
+    (cd "$installed" && "$here/../install" --built "$lib/libresidues.a" "$lister" one/two/three > "$build/printed")
+    [ -e "$installed/one/two/three/lib/libresidues.a" ] || { echo "not installed in one/two/three"; exit 1; }
+    (cd "$installed" && "$here/../install" --remove one/two/three)
+    owe_same "" "$(ls -A "$installed")"
+}
+
 echo "== installing, in a folder with a blank in its name"
 lister=$(cd "$(dirname "$3")" && pwd)/$(basename "$3")
+rm -rf "$installed"
+mkdir -p "$installed"
+refuse_odd_words
+install_deep
 install_there
 use_pkg_config
 use_python
 for page in man1/residues-lister.1 man3/residues.3; do
-    cmp "$here/../docs/man/${page#*/}" "$installed/some prefix/share/man/$page"
+    cmp "$here/../docs/man/${page#*/}" "$installed/$name/share/man/$page"
 done
-"${within[@]}" "$installed/some prefix/bin/residues-lister" < "$here/../examples/M.rows" > "$build/printed"
+"${within[@]}" "$installed/$name/bin/residues-lister" < "$here/../examples/M.rows" > "$build/printed"
 owe_same regular "$(tail -n 1 "$build/printed")"
-(cd "$installed" && "$here/../install" --remove "some prefix")
+(cd "$installed" && "$here/../install" --remove "$name")
 left=$(cd "$installed" && find . | sort | tr '\n' ' ')
-owe_same ". ./some prefix ./some prefix/bin ./some prefix/include ./some prefix/include/other.h " "$left"
+owe_same ". ./$name ./$name/bin ./$name/include ./$name/include/other.h " "$left"
 echo "installed, used, and taken away"
