@@ -26,8 +26,15 @@ static int read_table(const char *path, table *t)
         return 0;
     }
     const size_t count = fread(bytes, 1, sizeof bytes, input);
+    const int failed = ferror(input);
+    if (failed) {
+        perror(path == NULL ? "standard input" : path);
+    }
     if (path != NULL) {
         fclose(input);
+    }
+    if (failed) {
+        return 0;
     }
     const uint64_t reply = residues_read_file(bytes, count, t->words, WORDS);
     t->p = residues_value(reply);
@@ -46,6 +53,10 @@ static int print_matrix(const table *t)
     printf("modulo %u, orders %u and %u\n", t->p, t->r, t->s);
     for (size_t place = 0; place < (size_t)t->n * t->n; place++) {
         printf("%u%c", matrix[place], (place + 1) % t->n == 0 ? '\n' : ' ');
+    }
+    if (fflush(stdout) != 0) {
+        perror("standard output");
+        return 0;
     }
     return 1;
 }

@@ -11,7 +11,7 @@
  * Every call takes any numbers and any buffers, each as a pointer and a count of words, or of bytes for a file, which may lie at
  * any address. A buffer that is written may overlap no other; two that are only read may be the same. A refusal leaves every
  * buffer as it was. Words and bytes past what a call needs are neither read nor written, but a file that is read has its exact
- * length. Calls share nothing, so they may run at the same time.
+ * length. Calls share nothing, so they may run at the same time. C99, or C++.
  */
 #ifndef RESIDUES_H
 #define RESIDUES_H
@@ -34,8 +34,8 @@ enum {
     RESIDUES_BAD_ORDER_SUM = 6,  /* orders that add up to more than 8 */
     RESIDUES_ZERO_PIVOT = 7,     /* a leading corner is singular; beside it 1 and the least such row */
     RESIDUES_BAD_PLACE = 8,      /* i or j is not 1 to n */
-    RESIDUES_BAD_LENGTH = 9,     /* a file under 20 bytes, or of the wrong length */
-    RESIDUES_BAD_CHAIN = 10      /* a file's chain is wrong; beside it the rows read so far */
+    RESIDUES_BAD_LENGTH = 9,     /* a file under 20 bytes, or of the wrong length; beside it 6 */
+    RESIDUES_BAD_CHAIN = 10      /* a file's chain is wrong; beside it 6 and the rows read so far */
 };
 
 /* The buffers that a reply names. */
@@ -91,7 +91,7 @@ uint64_t residues_apply_transpose(uint32_t p, uint32_t n, uint32_t r, uint32_t s
                                   const uint32_t *table, size_t table_len, const uint32_t *column, size_t column_len,
                                   uint32_t *result, size_t result_len);
 
-/* The transposed table, of orders s and r, to the result: as many words as the table has. Refuses 1, 2, 3, 4, 5. */
+/* The transposed table, of orders s and r, to the result: as many words as the table has. Reads the table. Refuses 1, 2, 3, 4, 5. */
 uint64_t residues_transpose(uint32_t p, uint32_t n, uint32_t r, uint32_t s,
                             const uint32_t *table, size_t table_len, uint32_t *result, size_t result_len);
 

@@ -26,6 +26,13 @@ run_c_examples() {
     owe_printed files-written 0 od -A n -v -t u4 --endian=little "$build/transposed" "$build/inverse"
     owe_printed files-inverse 0 "${files[@]}" < "$build/inverse"
     owe_printed files-refused 0 refused_files
+    owe_printed files-unreadable 1 "${files[@]}" /
+    owe_printed files-unwritable 1 unwritable_files
+}
+
+# The example where what it prints cannot be written.
+unwritable_files() {
+    "${files[@]}" "$examples/M.rows" > /dev/full
 }
 
 # File M with one byte changed: changed PLACE BYTE
@@ -56,5 +63,8 @@ run_python() {
     "$here/../link-shared" "$lib/libresidues.a" "$RESIDUES_LIBRARY"
     owe_printed solve 0 "${within[@]}" "${solve[@]}" 4 4 5
     owe_printed solve-refused 1 "${within[@]}" "${solve[@]}" 4 7 5
+    owe_printed solve-surplus 1 "${within[@]}" "${solve[@]}" 4 4 5 6
+    owe_printed solve-no-number 1 "${within[@]}" "${solve[@]}" 4 4 x
+    owe_printed solve-no-file 1 "${within[@]}" python3 "$examples/solve.py" no-such-file 4
     "${within[@]}" python3 "$here/python/test_residues.py"
 }
