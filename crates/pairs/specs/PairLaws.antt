@@ -9,8 +9,9 @@ use Rattle.algebra.specs.Join.{join-left, join-right}
 use Rattle.lists.specs.Lists.{putAt}
 use Rattle.lists.specs.ListLaws.{tabulate-same}
 use Rattle.rows.specs.PutLaws.{put-add}
+use Rattle.rows.specs.Rows.{wordsAt}
 use Rattle.sweeps.specs.declared.Half.{Half}
-use Rattle.pairs.specs.Pairs.{cornerWords, wordsAt, blockIn}
+use Rattle.pairs.specs.Pairs.{cornerWords, blockIn}
 
 -- words that are copied one apart, and those of a line of a block
 pub by-one : (t : List ℕ) (a j : ℕ) → getD t (a + j * 1) 0 ≡ wordsAt t a j

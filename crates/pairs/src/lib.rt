@@ -9,7 +9,8 @@ ghost use Rattle.algebra.specs.Sums.{join};
 ghost use Rattle.algebra.specs.Generators.{pick};
 ghost use Rattle.field.specs.Fit.{Fit};
 ghost use Rattle.lists.specs.Lists.{putAt};
-ghost use Rattle.pairs.specs.Pairs.{wordsAt, joinedBlock, joinedHalf, Lies};
+ghost use Rattle.rows.specs.Rows.{wordsAt};
+ghost use Rattle.pairs.specs.Pairs.{joinedBlock, joinedHalf, Lies};
 
 // n words of x from `a` on, then k words of y from `e` on, where they are used, else zeros.
 fn put_two(
