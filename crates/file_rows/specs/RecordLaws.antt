@@ -1,69 +1,42 @@
--- What a record holds when a row's word d and its two parts are written.
-use mathlib.Core.Bool.{Bool, true, not}
-use mathlib.Core.Path.{_≡_, refl, sym, ap, _∙_}
+-- What a record holds when a row's word d and its two halves are written.
+use mathlib.Core.Bool.{Bool, not, _&&_}
+use mathlib.Core.Path.{_≡_, refl, sym, _∙_}
 use mathlib.Core.List.{List, [], _∷_, _++_}
 use Prim.Native.Nat.{ℕ, _+_, _*_, _/_, _%_, _<_}
-use native.Mathlib.Nat.{div-add-mod'}
 use native.Mathlib.Omega.{arith}
 use lib.Dec.{eqb}
-use lib.ListN.{length, length-append}
+use lib.ListN.{length}
 use Rattle.algebra.specs.Generators.{pick}
-use Rattle.algebra.specs.Kinds.{Kind, d-word, p-row, a-block, q-column, g-row, b-block, h-column, high, wide, part}
-use Rattle.field.specs.Residue.{val, val-small}
+use Rattle.algebra.specs.Kinds.{Kind}
 use Rattle.lists.specs.Lists.{tabulate, putAt}
-use Rattle.lists.specs.ListLaws.{length-tabulate, tabulate-same}
-use Rattle.table.specs.Words.{full, Used, used, before, blockSize, blocksSize, place, wordOf, rowGens, rowWords}
-use Rattle.table.specs.WordLaws.{used-is, gen-used}
+use Rattle.lists.specs.ListLaws.{length-tabulate}
+use Rattle.table.specs.Words.{Used, place, rowGens, rowWords}
 use Rattle.table.specs.RowFile.{byteOf, bytesOf}
-use Rattle.rows.specs.RowLaws.{cells-same, used-flag, d-used, flag, join-row, pick-same}
-use Rattle.file_rows.specs.Records.{partWords}
+use Rattle.rows.specs.Rows.{halfWords, keptHalf}
+use Rattle.rows.specs.RowLaws.{as-block, kept-row, gen-word}
 use Rattle.file_words.specs.ByteLaws.{Bytes, bytes-word, bytes-join, bytes-all}
 
-pub length-part : (first last : Bool) (o : ℕ) (w : ℕ → ℕ) (from : ℕ) → length (partWords first last o w from) ≡ 2 * o + o * o
-unfolding partWords
-length-part first last o w from = simp (length-append, length-tabulate) (omega arith)
-
--- the three blocks of a part, one after the other
-pub part-bytes : (at o : ℕ) (f g h : ℕ → ℕ) (a b c e : List ℕ) → Bytes at o (tabulate o f) a b → Bytes (at + o) (o * o) (tabulate (o * o) g) b c → Bytes (at + o + o * o) o (tabulate o h) c e
-    → Bytes at (2 * o + o * o) (tabulate o f ++ (tabulate (o * o) g ++ tabulate o h)) a e
-part-bytes at o f g h a b c e p q t =
+-- one half of a row, block by block
+pub half-bytes : (first last : Bool) (at o : ℕ) (w : ℕ → ℕ) (from : ℕ) (a b c e : List ℕ) → Bytes at o (tabulate o (λ j. pick first (w (from + j)) 0)) a b
+    → Bytes (at + o) (o * o) (tabulate (o * o) (λ j. pick (last && first) (w (from + o + j)) 0)) b c → Bytes (at + o + o * o) o (tabulate o (λ j. pick last (w (from + o + o * o + j)) 0)) c e
+    → Bytes at (2 * o + o * o) (keptHalf (λ x. x) first last o w from) a e
+unfolding halfWords
+half-bytes first last at o w from a b c e p q t =
+    let F : List ℕ = tabulate o (λ j. pick first (w (from + j)) 0) in
+    let G : List ℕ = tabulate (o * o) (λ e. pick (last && first) (w (from + o + (e / o * o + e % o))) 0) in
+    let H : List ℕ = tabulate o (λ i. pick last (w (from + o + o * o + i)) 0) in
+    let q′ : Bytes (at + o) (o * o) G b c = rw (as-block o o (o * o) (λ j. pick (last && first) (w (from + o + j)) 0) refl) at q in
     let z : o + (o * o + o) ≡ 2 * o + o * o = omega arith in
-    rw z at (bytes-join at (at + o) o (o * o + o) (tabulate o f) (tabulate (o * o) g ++ tabulate o h) a b e refl (length-tabulate o f) p
-    (bytes-join (at + o) (at + o + o * o) (o * o) o (tabulate (o * o) g) (tabulate o h) b c e refl (length-tabulate (o * o) g) q t))
+    rw z at (bytes-join at (at + o) o (o * o + o) F (G ++ H) a b e refl (length-tabulate o _) p (bytes-join (at + o) (at + o + o * o) (o * o) o G H b c e refl (length-tabulate (o * o) _) q′ t))
 
 -- Row k of n, by words w from `base` on that are below P where they are used.
-module _ (P n r s k : ℕ) (pos : 0 < P) (lt : k < n) (w : ℕ → ℕ) (base : ℕ) (v : Kind → ℕ → ℕ → ℕ) (here : (κ : Kind) (i j : ℕ) → v κ i j ≡ w (base + place r s κ i j))
-    (small : (κ : Kind) (i j : ℕ) → Used n r s k κ i j → v κ i j < P) where
-  word-back : (κ : Kind) (i j : ℕ) → used n r s k κ i j ≡ true → v κ i j ≡ val P (part (rowGens P n r s k v) κ i j)
-  word-back κ i j y = let u = used-is n r s k κ i j y in sym (ap (val P) (gen-used P n r s k v κ i j u) ∙ val-small P pos _ (small κ i j u))
+pub record-row : (P n r s k : ℕ) → 0 < P → k < n → (w : ℕ → ℕ) (base : ℕ) (v : Kind → ℕ → ℕ → ℕ) → ((κ : Kind) (i j : ℕ) → v κ i j ≡ w (base + place r s κ i j))
+    → ((κ : Kind) (i j : ℕ) → Used n r s k κ i j → v κ i j < P) → (x from from′ : ℕ) → x ≡ w base → from ≡ base + 1 → from′ ≡ base + (1 + (2 * r + r * r))
+    → (x ∷ []) ++ (keptHalf (λ x. x) (not (eqb k 0)) (not (eqb (k + 1) n)) r w from ++ keptHalf (λ x. x) (not (eqb (k + 1) n)) (not (eqb k 0)) s w from′) ≡ rowWords P n r s k (rowGens P n r s k v)
+record-row P n r s k pos lt w base v here small =
+    kept-row P n r s k lt (rowGens P n r s k v) w base (λ κ i j u. sym (here κ i j) ∙ gen-word P n r s k v pos small κ i j u) (λ x. x) (λ X. X) (λ m X e. e)
 
-  -- o words from `from` on are a kind's block
-  line : (κ : Kind) (b : Bool) (o from : ℕ) → o ≡ blockSize r s κ → b ≡ flag n k κ → from ≡ base + blocksSize r s (before κ)
-      → tabulate o (λ j. pick b (w (from + j)) 0)
-      ≡ tabulate (blockSize r s κ) (λ e. wordOf P n r s k (rowGens P n r s k v) κ (e / wide (full r s) κ) (e % wide (full r s) κ))
-  line κ b o from z q f =
-      ap (λ (m : ℕ). tabulate m (λ j. pick b (w (from + j)) 0)) z
-      ∙ tabulate-same (blockSize r s κ) _ _ (λ e l. ap (λ (x : ℕ). pick b (w (from + x)) 0) (sym (div-add-mod' e (wide (full r s) κ))))
-      ∙ cells-same (high (full r s) κ) (wide (full r s) κ) (λ i j. pick b (w (from + (i * wide (full r s) κ + j))) 0) (wordOf P n r s k (rowGens P n r s k v) κ)
-      (λ i j hi hj.
-      let y : from + (i * wide (full r s) κ + j) ≡ base + place r s κ i j = omega arith in
-      ap (λ (x : Bool). pick x (w (from + (i * wide (full r s) κ + j))) 0) (q ∙ sym (used-flag n k lt r s κ i j (hi, hj)))
-      ∙ ap (λ (x : ℕ). pick (used n r s k κ i j) x 0) (ap w y ∙ sym (here κ i j))
-      ∙ pick-same (used n r s k κ i j) _ _ (word-back κ i j))
-
-  pub record-row : (x from from′ : ℕ) → x ≡ w base → from ≡ base + 1 → from′ ≡ base + (1 + (2 * r + r * r))
-      → (x ∷ []) ++ (partWords (not (eqb k 0)) (not (eqb (k + 1) n)) r w from ++ partWords (not (eqb (k + 1) n)) (not (eqb k 0)) s w from′)
-      ≡ rowWords P n r s k (rowGens P n r s k v)
-  unfolding partWords rowWords
-  record-row x from from′ y z z′ = join-row d-is
-      (line p-row _ r from (omega arith) refl (omega arith)) (line a-block _ (r * r) _ refl refl (omega arith)) (line q-column _ r _ (omega arith) refl (omega arith))
-      (line g-row _ s from′ (omega arith) refl (omega arith)) (line b-block _ (s * s) _ refl refl (omega arith)) (line h-column _ s _ (omega arith) refl (omega arith))
-    where
-      d-is : x ≡ wordOf P n r s k (rowGens P n r s k v) d-word 0 0
-      d-is = let m : base ≡ base + place r s d-word 0 0 = omega arith in
-          y ∙ ap w m ∙ sym (here d-word 0 0) ∙ d-used n k lt r s ∙ pick-same (used n r s k d-word 0 0) _ _ (word-back d-word 0 0)
-
--- a record: the word "next", the word d and two parts
+-- a record: the word "next", the word d and two halves
 pub record-bytes : (x y at m n : ℕ) (A B d a b c e : List ℕ) → length A ≡ m → at ≡ 2 + m → length d ≡ 4 * (1 + (1 + m + n))
     → a ≡ putAt 0 4 (byteOf x) d → b ≡ putAt 4 4 (byteOf y) a → Bytes 2 m A b c → Bytes at n B c e → e ≡ bytesOf (x ∷ ((y ∷ []) ++ (A ++ B)))
 record-bytes x y at m n A B d a b c e la z l p q f g =

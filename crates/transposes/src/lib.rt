@@ -2,10 +2,10 @@
 ghost use mathlib.Core.Path.{_≡_};
 ghost use mathlib.Core.List.{List, _++_};
 ghost use Prim.Native.Nat.{ℕ, _+_, _*_, _<_, _≤_};
-ghost use lib.ListN.{length, drop};
+ghost use lib.ListN.{length, getD, drop};
 ghost use Rattle.table.specs.Words.{table, width, firstBad};
 ghost use Rattle.table.specs.Results.{transposeW};
-ghost use Rattle.rows.specs.Rows.{rowWord, transposedPart, transposedRow};
+ghost use Rattle.rows.specs.Rows.{transposedHalf, transposedRow};
 
 // The blocks p, a, q or g, b, h, of order o, at `from` of row, to `at` on: the last one first and each transposed.
 // Whether they are used: `first` for the first one written, `last` for the last one, both for the one between.
@@ -20,7 +20,7 @@ fn transpose_part(
 )
     requires { ⌜ (o ≤ 8) × (from ≤ 81) × (at + (2 * o + o * o) ≤ length (now out)) × (from + (2 * o + o * o) ≤ length (now row)) ⌝ }
     ensures { λ _. ⌜ ((pre d : List ℕ) → length pre ≡ at → now (out .entry) ≡ pre ++ drop at d
-        → now (out .exit) ≡ (pre ++ transposedPart first last o (now (row .entry)) from) ++ drop (at + (2 * o + o * o)) d) ⌝ }
+        → now (out .exit) ≡ (pre ++ transposedHalf first last o (λ e. getD (now (row .entry)) e 0) from) ++ drop (at + (2 * o + o * o)) d) ⌝ }
 {
     let middle = from + o;
     let end = middle + o * o;
@@ -32,7 +32,7 @@ fn transpose_part(
 // Row k of the transposed table: d, then h, b transposed, g, then q, a transposed, p.
 fn transpose_row(n: usize, r: usize, s: usize, k: usize, row: &[u32], out: &mut [u32])
     requires { ⌜ (k < n) × (r ≤ 8) × (s ≤ 8) × (length (now row) ≡ width r s) × (length (now out) ≡ width r s) ⌝ }
-    ensures { λ _. ⌜ now (out .exit) ≡ transposedRow n r s k (rowWord r s (now (row .entry))) ⌝ }
+    ensures { λ _. ⌜ now (out .exit) ≡ transposedRow n r s k (now (row .entry)) ⌝ }
 {
     let below = k != 0;
     let above = k + 1 != n;

@@ -1,18 +1,22 @@
 -- `file_rows::read_part` meets its contract.
-use Prim.Native.Nat.{_+_, _*_}
+use mathlib.Core.Bool.{_&&_}
+use mathlib.Core.Path.{refl}
+use Prim.Native.Nat.{_+_}
 use native.Mathlib.Omega.{arith}
 use borrow.Author.Needs.{needs}
+use Rattle.algebra.specs.Generators.{pick}
 use Rattle.field.specs.Modulo.{sq-fits}
-use Rattle.rows.specs.PutLaws.{put-three}
-use Rattle.file_rows.specs.Records.{partWords}
+use Rattle.table.specs.RowFile.{fileWord}
+use Rattle.rows.specs.PutLaws.{put-half}
+use Rattle.rows.specs.RowLaws.{as-block}
 use Rattle.file_rows.proofs.read_part.Statement.{statement}
 use Rattle.file_rows.proofs.read_part.Tie as tie
 
 returns : tie.Need-returns
-unfolding partWords
 returns c pre d l e =
     let a = c .before .before .before .before .before .before .before .before .before .before .before .before .before .before .args in
-    put-three pre d _ _ _ (a .at + (2 * a .o + a .o * a .o)) _ _ _ _ _ _ l e (c .before .before .before .before .before .before .before .before .before .before .read-words .ensures) (c .before .before .before .before .before .before .read-words2 .ensures) (c .before .before .read-words3 .ensures) (omega arith) (omega arith) (omega arith)
+    put-half (a .first) (a .last) (a .o) _ _ _ pre d _ _ _ _ _ _ _ _ l e (c .before .before .before .before .before .before .before .before .before .before .read-words .ensures) (c .before .before .before .before .before .before .read-words2 .ensures) (c .before .before .read-words3 .ensures) refl refl
+    refl (as-block (a .o) (a .o) _ (λ j. pick (a .last && a .first) (fileWord (a .part .now) (a .from + a .o + j)) 0) refl) refl
 
 pub read-part-spec : {M : Type 1} → statement M
 read-part-spec =

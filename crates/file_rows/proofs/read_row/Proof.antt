@@ -7,14 +7,15 @@ use borrow.Author.Needs.{needs}
 use Rattle.table.specs.Words.{place}
 use Rattle.table.specs.RowFile.{fileWord}
 use Rattle.rows.specs.PutLaws.{two-parts}
-use Rattle.file_rows.specs.RecordLaws.{length-part, record-row}
+use Rattle.rows.specs.RowLaws.{length-half}
+use Rattle.file_rows.specs.RecordLaws.{record-row}
 use Rattle.file_rows.proofs.read_row.Statement.{statement}
 use Rattle.file_rows.proofs.read_row.Tie as tie
 
 returns : tie.Need-returns
 returns c p pos small =
     let a = c .before .before .before .before .before .before .before .before .before .before .before .before .args in let upper = 1 + c .before .before .before .before .before .before .before .before .before .part-width .result in
-    two-parts (c .before .before .before .before .before .before .before .before .word .result) (a .out .now) _ _ upper (2 * a .r + a .r * a .r) (2 * a .s + a .s * a .s) (length-part _ _ _ _ _) (omega arith) (omega arith) (c .before .before .before .before .before .before .read-part .ensures) (c .before .before .read-part2 .ensures)
+    two-parts (c .before .before .before .before .before .before .before .before .word .result) (a .out .now) _ _ upper (2 * a .r + a .r * a .r) (2 * a .s + a .s * a .s) (length-half _ _ _ _ _ _) (omega arith) (omega arith) (c .before .before .before .before .before .before .read-part .ensures) (c .before .before .read-part2 .ensures)
     ∙ record-row p (a .n) (a .r) (a .s) (a .k) pos (c .before .before .before .before .before .before .before .before .before .before .before .before .pre .0) (fileWord (a .part .now)) 1 (λ κ i j. fileWord (a .part .now) (1 + place (a .r) (a .s) κ i j)) (λ κ i j. refl) small
     (c .before .before .before .before .before .before .before .before .word .result) 2 (1 + upper) (c .before .before .before .before .before .before .before .before .word .ensures) refl (omega arith)
 

@@ -1,15 +1,14 @@
 -- `file_rows::write_part` meets its contract.
 use native.Mathlib.Omega.{arith}
+use lib.ListN.{getD}
 use borrow.Author.Needs.{needs}
 use Rattle.field.specs.Modulo.{sq-fits}
-use Rattle.file_rows.specs.Records.{partWords}
-use Rattle.file_rows.specs.RecordLaws.{part-bytes}
+use Rattle.file_rows.specs.RecordLaws.{half-bytes}
 use Rattle.file_rows.proofs.write_part.Statement.{statement}
 use Rattle.file_rows.proofs.write_part.Tie as tie
 
 returns : tie.Need-returns
-unfolding partWords
-returns c = let a = c .before .before .before .before .before .before .before .before .before .before .before .before .before .before .args in part-bytes (a .at) (a .o) _ _ _ _ _ _ _ (c .before .before .before .before .before .before .before .before .before .before .write-words .ensures) (c .before .before .before .before .before .before .write-words2 .ensures) (c .before .before .write-words3 .ensures)
+returns c = let a = c .before .before .before .before .before .before .before .before .before .before .before .before .before .before .args in half-bytes (a .first) (a .last) (a .at) (a .o) (λ e. getD (a .row .now) e 0) (a .from) _ _ _ _ (c .before .before .before .before .before .before .before .before .before .before .write-words .ensures) (c .before .before .before .before .before .before .write-words2 .ensures) (c .before .before .write-words3 .ensures)
 
 pub write-part-spec : {M : Type 1} → statement M
 write-part-spec =

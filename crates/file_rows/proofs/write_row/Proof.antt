@@ -9,8 +9,9 @@ use lib.ListN.{getD}
 use borrow.Author.Needs.{needs}
 use Rattle.table.specs.Words.{place}
 use Rattle.table.specs.RowFile.{bytesOf}
-use Rattle.file_rows.specs.Records.{partWords}
-use Rattle.file_rows.specs.RecordLaws.{length-part, record-row, record-bytes}
+use Rattle.rows.specs.Rows.{keptHalf}
+use Rattle.rows.specs.RowLaws.{length-half}
+use Rattle.file_rows.specs.RecordLaws.{record-row, record-bytes}
 use Rattle.file_rows.proofs.write_row.Statement.{statement}
 use Rattle.file_rows.proofs.write_row.Tie as tie
 
@@ -19,8 +20,8 @@ returns c p pos small =
     let a = c .before .before .before .before .before .before .before .before .before .before .before .before .before .before .before .before .before .before .before .before .args in let upper = 1 + c .before .before .before .before .before .before .before .before .before .before .before .before .before .before .before .before .before .part-width .result in
     let w : ℕ → ℕ = λ e. getD (a .row .now) e 0 in
     let below = not (eqb (a .k) 0) in let above = not (eqb (a .k + 1) (a .n)) in
-    record-bytes (a .next) (w 0) (1 + upper) (2 * a .r + a .r * a .r) (2 * a .s + a .s * a .s) (partWords below above (a .r) w 1) (partWords above below (a .s) w upper) (a .out .now) _ _ _ _
-    (length-part below above (a .r) w 1) (omega arith) (omega arith) (c .before .before .before .before .before .before .before .before .before .before .before .before .before .before .before .put-word .ensures) (c .before .before .before .before .before .before .before .before .before .before .put-word2 .ensures) (c .before .before .before .before .before .before .write-part .ensures) (c .before .before .write-part2 .ensures)
+    record-bytes (a .next) (w 0) (1 + upper) (2 * a .r + a .r * a .r) (2 * a .s + a .s * a .s) (keptHalf (λ x. x) below above (a .r) w 1) (keptHalf (λ x. x) above below (a .s) w upper) (a .out .now) _ _ _ _
+    (length-half _ _ _ _ _ _) (omega arith) (omega arith) (c .before .before .before .before .before .before .before .before .before .before .before .before .before .before .before .put-word .ensures) (c .before .before .before .before .before .before .before .before .before .before .put-word2 .ensures) (c .before .before .before .before .before .before .write-part .ensures) (c .before .before .write-part2 .ensures)
     ∙ ap (λ (ws : List ℕ). bytesOf (a .next ∷ ws))
     (record-row p (a .n) (a .r) (a .s) (a .k) pos (c .before .before .before .before .before .before .before .before .before .before .before .before .before .before .before .before .before .before .before .before .pre .0) w 0 (λ κ i j. w (place (a .r) (a .s) κ i j))
     (λ κ i j. let z : place (a .r) (a .s) κ i j ≡ 0 + place (a .r) (a .s) κ i j = omega arith in ap w z) small (w 0) 1 upper refl refl (omega arith))
