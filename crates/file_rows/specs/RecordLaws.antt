@@ -12,14 +12,14 @@ use Rattle.lists.specs.Lists.{tabulate, putAt}
 use Rattle.lists.specs.ListLaws.{length-tabulate}
 use Rattle.table.specs.Words.{Used, place, rowGens, rowWords}
 use Rattle.table.specs.RowFile.{byteOf, bytesOf}
-use Rattle.rows.specs.Rows.{halfWords, keptHalf}
-use Rattle.rows.specs.RowLaws.{as-block, kept-row, gen-word}
+use Rattle.rows.specs.Rows.{halfWords, copiedHalf}
+use Rattle.rows.specs.RowLaws.{as-block, copied-row, gen-word}
 use Rattle.file_words.specs.ByteLaws.{Bytes, bytes-word, bytes-join, bytes-all}
 
 -- one half of a row, block by block
 pub half-bytes : (first last : Bool) (at o : ℕ) (w : ℕ → ℕ) (from : ℕ) (a b c e : List ℕ) → Bytes at o (tabulate o (λ j. pick first (w (from + j)) 0)) a b
     → Bytes (at + o) (o * o) (tabulate (o * o) (λ j. pick (last && first) (w (from + o + j)) 0)) b c → Bytes (at + o + o * o) o (tabulate o (λ j. pick last (w (from + o + o * o + j)) 0)) c e
-    → Bytes at (2 * o + o * o) (keptHalf (λ x. x) first last o w from) a e
+    → Bytes at (2 * o + o * o) (copiedHalf (λ x. x) first last o w from) a e
 unfolding halfWords
 half-bytes first last at o w from a b c e p q t =
     let F : List ℕ = tabulate o (λ j. pick first (w (from + j)) 0) in
@@ -32,9 +32,9 @@ half-bytes first last at o w from a b c e p q t =
 -- Row k of n, by words w from `base` on that are below P where they are used.
 pub record-row : (P n r s k : ℕ) → 0 < P → k < n → (w : ℕ → ℕ) (base : ℕ) (v : Kind → ℕ → ℕ → ℕ) → ((κ : Kind) (i j : ℕ) → v κ i j ≡ w (base + place r s κ i j))
     → ((κ : Kind) (i j : ℕ) → Used n r s k κ i j → v κ i j < P) → (x from from′ : ℕ) → x ≡ w base → from ≡ base + 1 → from′ ≡ base + (1 + (2 * r + r * r))
-    → (x ∷ []) ++ (keptHalf (λ x. x) (not (eqb k 0)) (not (eqb (k + 1) n)) r w from ++ keptHalf (λ x. x) (not (eqb (k + 1) n)) (not (eqb k 0)) s w from′) ≡ rowWords P n r s k (rowGens P n r s k v)
+    → (x ∷ []) ++ (copiedHalf (λ x. x) (not (eqb k 0)) (not (eqb (k + 1) n)) r w from ++ copiedHalf (λ x. x) (not (eqb (k + 1) n)) (not (eqb k 0)) s w from′) ≡ rowWords P n r s k (rowGens P n r s k v)
 record-row P n r s k pos lt w base v here small =
-    kept-row P n r s k lt (rowGens P n r s k v) w base (λ κ i j u. sym (here κ i j) ∙ gen-word P n r s k v pos small κ i j u) (λ x. x) (λ X. X) (λ m X e. e)
+    copied-row P n r s k lt (rowGens P n r s k v) w base (λ κ i j u. sym (here κ i j) ∙ gen-word P n r s k v pos small κ i j u) (λ x. x) (λ X. X) (λ m X e. e)
 
 -- a record: the word "next", the word d and two halves
 pub record-bytes : (x y at m n : ℕ) (A B d a b c e : List ℕ) → length A ≡ m → at ≡ 2 + m → length d ≡ 4 * (1 + (1 + m + n))

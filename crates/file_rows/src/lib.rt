@@ -6,7 +6,7 @@ ghost use lib.ListN.{length, getD, drop};
 ghost use Rattle.algebra.specs.Kinds.{Kind};
 ghost use Rattle.table.specs.Words.{width, place, Used, rowGens, rowWords};
 ghost use Rattle.table.specs.RowFile.{fileWord, bytesOf};
-ghost use Rattle.rows.specs.Rows.{keptHalf};
+ghost use Rattle.rows.specs.Rows.{copiedHalf};
 
 // The blocks p, a, q or g, b, h, of order o, from word `from` of the record on, to `at` on.
 // Whether they are used: `first` for the first one, `last` for the last one, both for the one between.
@@ -21,7 +21,7 @@ fn read_part(
 )
     requires { ⌜ (o ≤ 8) × (from ≤ 82) × (at + (2 * o + o * o) ≤ length (now out)) × (4 * (from + (2 * o + o * o)) ≤ length (now part)) ⌝ }
     ensures { λ _. ⌜ ((pre d : List ℕ) → length pre ≡ at → now (out .entry) ≡ pre ++ drop at d
-        → now (out .exit) ≡ (pre ++ keptHalf (λ x. x) first last o (fileWord (now (part .entry))) from) ++ drop (at + (2 * o + o * o)) d) ⌝ }
+        → now (out .exit) ≡ (pre ++ copiedHalf (λ x. x) first last o (fileWord (now (part .entry))) from) ++ drop (at + (2 * o + o * o)) d) ⌝ }
 {
     let middle = from + o;
     let end = middle + o * o;
@@ -42,7 +42,7 @@ fn write_part(
 )
     requires { ⌜ (o ≤ 8) × (at ≤ 82) × (from ≤ 81) × (4 * (at + (2 * o + o * o)) ≤ length (now out)) × (from + (2 * o + o * o) ≤ length (now row)) ⌝ }
     ensures { λ _. ⌜ ((pre d : List ℕ) → length pre ≡ 4 * at → now (out .entry) ≡ pre ++ drop (4 * at) d
-        → now (out .exit) ≡ (pre ++ bytesOf (keptHalf (λ x. x) first last o (λ e. getD (now (row .entry)) e 0) from)) ++ drop (4 * (at + (2 * o + o * o))) d) ⌝ }
+        → now (out .exit) ≡ (pre ++ bytesOf (copiedHalf (λ x. x) first last o (λ e. getD (now (row .entry)) e 0) from)) ++ drop (4 * (at + (2 * o + o * o))) d) ⌝ }
 {
     let middle = from + o;
     let end = middle + o * o;

@@ -64,7 +64,7 @@ module _ (n r s k : ℕ) (t : List ℕ) (at w : ℕ) (z : w ≡ width r s) (q : 
       ∙ ap₂ (λ (x : ℕ) (ws : List ℕ). bytesOf (x ∷ ws)) e (ap (rowWords p n r s k) (row-same p n r s k rowAt (tableWord (table r s t) k) (λ κ i j u. ap (res p) (here κ i j u))))
     where
       here : (κ : Kind) (i j : ℕ) → Used n r s k κ i j → rowAt κ i j ≡ tableWord (table r s t) k κ i j
-      here κ i j u = lent-word n r s k t at w z q κ i j (room n r s k κ i j u)
+      here κ i j u = lent-word r s k t at w z q κ i j (room n r s k κ i j u)
 
 -- The state of the loop that writes n records of `size` bytes into a buffer a that held d, from a table t with rows of w words: k are written.
 pub record Records (n r s : ℕ) (t d : List ℕ) (w size k at to : ℕ) (a : List ℕ) : Type 0 where
