@@ -8,8 +8,8 @@ use lib.Seq.{drop-length}
 use Rattle.field.specs.Residue.{residues, val}
 use Rattle.field.specs.Fit.{Fit}
 use Rattle.lists.specs.Lists.{tabulate, rowsOf, putAt}
-use Rattle.lists.specs.ListLaws.{length-tabulate, length-rows, tabulate-same}
-use Rattle.lists.specs.Writing.{put-more, length-put}
+use Rattle.lists.specs.ListLaws.{length-tabulate, length-rows}
+use Rattle.lists.specs.Writing.{put-more, length-put, put-same}
 use Rattle.table.specs.Words.{table, gap, width, matrixOf}
 use Rattle.table.specs.Replies.{Accepted}
 use Rattle.table.specs.Results.{matrixW}
@@ -27,10 +27,6 @@ use Rattle.sweeps.specs.Reads.{upper-sizes}
 -- word j of row i
 abbrev pub rowWord : (P N r s : ℕ) (t : List ℕ) (i j : ℕ) → ℕ
 rowWord P N r s t i j = val P (matrixOf P N (table r s t) i j)
-
-put-same : (at n : ℕ) (f g : ℕ → ℕ) (d : List ℕ) → ((k : ℕ) → k < n → f k ≡ g k) → putAt at n f d ≡ putAt at n g d
-unfolding putAt
-put-same at n f g d e = rw (tabulate-same n f g e)
 
 put-all : (n : ℕ) (f : ℕ → ℕ) (d : List ℕ) → length d ≡ n → putAt 0 n f d ≡ tabulate n f
 unfolding putAt

@@ -90,6 +90,10 @@ unfolding firstOf
 none-first zero f at e = refl
 none-first (suc n) f at e = rw (e at (omega arith) (omega arith), firstOf) (none-first n f (suc at) (λ j a b. e j (omega arith) (omega arith)))
 
+pub or-none : (a : Bool) → (a || false) ≡ a
+or-none true = refl
+or-none false = refl
+
 pub or-false : (a b : Bool) → (a || b) ≡ false → (a ≡ false) × (b ≡ false)
 or-false true b e = clash e
 or-false false b e = (refl, e)
@@ -128,6 +132,11 @@ pub tabulate-same : (n : ℕ) (f g : ℕ → ℕ) → ((i : ℕ) → i < n → f
 tabulate-same zero f g e = refl
 tabulate-same (suc n) f g e = ap₂ _∷_ (e 0 (omega arith)) (tabulate-same n (λ i. f (suc i)) (λ i. g (suc i)) (λ i h. e (suc i) (omega arith)))
 
+-- rows are the same where each of them is
+pub rows-same : (n : ℕ) (f g : ℕ → List ℕ) → ((k : ℕ) → k < n → f k ≡ g k) → rowsOf n f ≡ rowsOf n g
+rows-same zero f g e = refl
+rows-same (suc n) f g e = ap₂ _++_ (rows-same n f g (λ k h. e k (omega arith))) (e n (omega arith))
+
 -- one turn of a loop over rows, each written to the part of w words that is lent on: the buffer so far is a
 pub rows-part : (g : ℕ → List ℕ) (d : List ℕ) (w : ℕ) → ((k : ℕ) → length (g k) ≡ w) → (k at : ℕ) {a b : List ℕ} → a ≡ rowsOf k g ++ drop (k * w) d → at ≡ k * w → b ≡ g k
     → putMid at (at + w - at) a b ≡ rowsOf (k + 1) g ++ drop ((k + 1) * w) d
@@ -162,13 +171,9 @@ unfolding some
 some-true zero f e = clash (sym e)
 some-true (suc n) f e = go (f n) refl e (λ q. some-true n f q)
   where
-    or-is : (a : Bool) → (a || false) ≡ a
-    or-is true = refl
-    or-is false = refl
-
     go : (b : Bool) → f n ≡ b → (some n f || b) ≡ true → (some n f ≡ true → (j : ℕ) × (j < n) × (f j ≡ true)) → (j : ℕ) × (j < suc n) × (f j ≡ true)
     go true q e ih = (n, omega arith, q)
-    go false q e ih = let z = ih (sym (or-is (some n f)) ∙ e) in (z .0, omega (arith, z .1), z .2)
+    go false q e ih = let z = ih (sym (or-none (some n f)) ∙ e) in (z .0, omega (arith, z .1), z .2)
 
 -- a search by a test of Q finds the first with Q, and none where none has it
 module _ (n : ℕ) (f : ℕ → Bool) (Q : ℕ → Type 0) (tells : (k : ℕ) → k < n → (f k ≡ true) ↔ Q k) (within : (k : ℕ) → Q k → k < n) where

@@ -1,13 +1,13 @@
 -- Laws of two lists of words that are written one after the other, and of the lines of a block of four corners.
 use mathlib.Core.Path.{_≡_, sym, ap, _∙_}
-use mathlib.Core.List.{List, _++_}
+use mathlib.Core.List.{List}
 use Prim.Native.Nat.{ℕ, _+_, _-_, _*_, _<_, _≤_}
 use native.Mathlib.Omega.{arith}
-use lib.ListN.{length, take, drop, getD}
+use lib.ListN.{length, getD}
 use Rattle.algebra.specs.Sums.{join}
 use Rattle.algebra.specs.Join.{join-left, join-right}
 use Rattle.lists.specs.Lists.{putAt}
-use Rattle.lists.specs.ListLaws.{tabulate-same}
+use Rattle.lists.specs.Writing.{put-same}
 use Rattle.rows.specs.PutLaws.{put-add}
 use Rattle.rows.specs.Rows.{wordsAt}
 use Rattle.sweeps.specs.declared.Half.{Half}
@@ -19,10 +19,6 @@ by-one t a j = let z : a + j * 1 ≡ a + j = omega arith in ap (λ (i : ℕ). ge
 
 pub line-by-one : (row : List ℕ) (h : Half) (i j : ℕ) → getD row (h .block + i * h .order + j * 1) 0 ≡ blockIn row h i j
 line-by-one row h i j = let z : h .block + i * h .order + j * 1 ≡ h .block + (i * h .order + j) = omega arith in ap (λ (k : ℕ). getD row k 0) z
-
-put-same : (at n : ℕ) (f g : ℕ → ℕ) (d : List ℕ) → ((j : ℕ) → j < n → f j ≡ g j) → putAt at n f d ≡ putAt at n g d
-unfolding putAt
-put-same at n f g d e = ap (λ (l : List ℕ). take at d ++ (l ++ drop (at + n) d)) (tabulate-same n f g e)
 
 -- n words u, then m words v; the code writes them as f and g
 pub put-join : (at n m : ℕ) (f g u v : ℕ → ℕ) (d : List ℕ) {a b : List ℕ} → at ≤ length d → a ≡ putAt at n f d → b ≡ putAt (at + n) m g a

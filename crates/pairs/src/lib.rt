@@ -1,4 +1,4 @@
-// Rows joined from the rows of two tables, and the sum of two tables. Unused words become 0.
+// One half of a row, joined from the halves of two tables' rows, for the sum and the product. Unused words become 0.
 use field::Modulus;
 use sweeps::Half;
 ghost use mathlib.Core.Path.{_≡_};

@@ -7,8 +7,8 @@ use lib.ListN.{length}
 use borrow.Author.Tests.{not-true, not-false}
 use Rattle.field.specs.Modulo.{sq-fits}
 use Rattle.lists.specs.Lists.{putAt}
-use Rattle.lists.specs.Writing.{put-none}
-use Rattle.rows.specs.PutLaws.{put-line, put-done, put-used, put-unused}
+use Rattle.lists.specs.Writing.{put-none, put-done}
+use Rattle.rows.specs.PutLaws.{put-line, put-used, put-unused}
 use Rattle.pairs.specs.Pairs.{joinedBlock}
 use Rattle.pairs.proofs.put_corners.Statement.{statement}
 use Rattle.pairs.proofs.put_corners.Tie as tie
