@@ -12,10 +12,12 @@ file is installed, and by the system's loader.
 import array
 import collections
 import ctypes
-import ctypes.util
 import operator
 import os
 import struct
+
+# The library's version, which `set-version` puts here. The shared library's name has its first number.
+__version__ = "1.0.1"
 
 HOUSE_PRIME = 2147483647
 LARGEST_SIZE = 1024
@@ -77,11 +79,12 @@ def load(path=None):
 
 def _found():
     here = os.path.dirname(os.path.abspath(__file__))
-    installed = os.path.join(here, "..", "..", "..", "lib", "libresidues.so.1")
+    library = "libresidues.so." + __version__.split(".")[0]
+    installed = os.path.join(here, "..", "..", "..", "lib", library)
     named = os.environ.get("RESIDUES_LIBRARY")
     if named:
         return named
-    return installed if os.path.exists(installed) else ctypes.util.find_library("residues") or "libresidues.so.1"
+    return installed if os.path.exists(installed) else library
 
 
 def _run(call, numbers, *buffers):

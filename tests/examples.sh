@@ -60,7 +60,6 @@ refused_files() {
 run_python() {
     local solve=(python3 "$examples/solve.py" "$examples/M.rows")
     export PYTHONPATH="$here/../python" PYTHONDONTWRITEBYTECODE=1 RESIDUES_LIBRARY="$build/libresidues.so"
-    "$here/../link-shared" "$lib/libresidues.a" "$RESIDUES_LIBRARY"
     owe_printed solve 0 "${within[@]}" "${solve[@]}" 4 4 5
     owe_printed solve-refused 1 "${within[@]}" "${solve[@]}" 4 7 5
     owe_printed solve-surplus 1 "${within[@]}" "${solve[@]}" 4 4 5 6

@@ -4,14 +4,13 @@
 installed="$build/to install"
 name="some # prefix"
 
-owe_same() {
-    [ "$1" = "$2" ] || { echo "'$1' is owed, not '$2'"; exit 1; }
-}
-
 install_there() {
     rm -rf "$installed"
     mkdir -p "$installed/$name/include" "$installed/$name/bin"
     echo kept > "$installed/$name/include/other.h"
+    # An earlier version, and one of another name.
+    mkdir "$installed/$name/lib"
+    touch "$installed/$name/lib/$shared.0.earlier" "$installed/$name/lib/libresidues.so.0"
     (cd "$installed" && "$here/../install" --built "$lib/libresidues.a" "$lister" "$name" > "$build/printed")
     # Again, over itself.
     (cd "$installed" && "$here/../install" --built "$lib/libresidues.a" "$lister" "$name" > "$build/printed")
@@ -25,8 +24,9 @@ use_pkg_config() {
     fi
     flags=$(PKG_CONFIG_PATH="$installed/$name/lib/pkgconfig" pkg-config --cflags --libs residues)
     eval "cc $flags \"\$here/../examples/apply.c\" -o \"\$build/apply-shared\"" || { echo "pkg-config says: $flags"; exit 1; }
-    readelf -d "$build/apply-shared" | grep 'NEEDED.*\[libresidues\.so\.1\]' > "$build/printed" ||
-        { echo "the program does not ask for libresidues.so.1"; exit 1; }
+    readelf -d "$build/apply-shared" | grep NEEDED | grep -F "[$shared]" > "$build/printed" ||
+        { echo "the program does not ask for $shared"; exit 1; }
+    owe_same "$version" "$(PKG_CONFIG_PATH="$installed/$name/lib/pkgconfig" pkg-config --modversion residues)"
     owe_same "4 4 5" "$(LD_LIBRARY_PATH="$installed/$name/lib" "$build/apply-shared")"
 }
 
@@ -37,8 +37,8 @@ use_python() {
         return
     fi
     printed=$(env -u RESIDUES_LIBRARY -u PYTHONDONTWRITEBYTECODE PYTHONPATH="$prefix/share/residues/python" \
-        python3 -c 'import residues; print(residues.apply(5, 2, 0, 0, [2, 3], [1, 1]), residues.__file__)')
-    owe_same "[2, 3] $prefix/share/residues/python/residues.py" "$printed"
+        python3 -c 'import residues; print(residues.apply(5, 2, 0, 0, [2, 3], [1, 1]), residues.__version__, residues.__file__)')
+    owe_same "[2, 3] $version $prefix/share/residues/python/residues.py" "$printed"
 }
 
 # Words that are none of install's, and files that are not there: nothing is made.
@@ -68,6 +68,10 @@ mkdir -p "$installed"
 refuse_odd_words
 install_deep
 install_there
+owe_same "libresidues.a libresidues.so libresidues.so.0 $shared libresidues.so.$version pkgconfig " \
+    "$(LC_ALL=C ls "$installed/$name/lib" | tr '\n' ' ')"
+owe_same "$shared" "$(by_shared "$installed/$name/lib/libresidues.so")"
+owe_version "$version" "$installed/$name/include" "$installed/$name/share/residues/python" "$installed/$name"/share/man/man*/*
 use_pkg_config
 use_python
 for page in man1/residues-lister.1 man3/residues.3; do
@@ -77,5 +81,5 @@ done
 owe_same regular "$(tail -n 1 "$build/printed")"
 (cd "$installed" && "$here/../install" --remove "$name")
 left=$(cd "$installed" && find . | sort | tr '\n' ' ')
-owe_same ". ./$name ./$name/bin ./$name/include ./$name/include/other.h " "$left"
+owe_same ". ./$name ./$name/bin ./$name/include ./$name/include/other.h ./$name/lib " "$left"
 echo "installed, used, and taken away"
