@@ -19,14 +19,11 @@
 #include <stddef.h>
 #include <stdint.h>
 
-/* The version of this header. A change that adds calls raises MINOR, one that changes what a call means or takes raises MAJOR and
- * with it the shared library's name, any other raises PATCH. RESIDUES_VERSION is a text, "MAJOR.MINOR.PATCH". */
+/* The version, MAJOR.MINOR.PATCH. MAJOR is in the shared library's name. */
+#define RESIDUES_VERSION "1.0.1"
 #define RESIDUES_VERSION_MAJOR 1
 #define RESIDUES_VERSION_MINOR 0
 #define RESIDUES_VERSION_PATCH 1
-#define RESIDUES_VERSION RESIDUES_VERSION_TEXT(RESIDUES_VERSION_MAJOR, RESIDUES_VERSION_MINOR, RESIDUES_VERSION_PATCH)
-#define RESIDUES_VERSION_TEXT(major, minor, patch) RESIDUES_VERSION_QUOTED(major, minor, patch)
-#define RESIDUES_VERSION_QUOTED(major, minor, patch) #major "." #minor "." #patch
 
 #ifdef __cplusplus
 extern "C" {

@@ -4,13 +4,16 @@
 installed="$build/to install"
 name="some # prefix"
 
+# What stands among the libraries and is none.
+others=("$shared.0.folder" libresidues.sources)
+
 install_there() {
     rm -rf "$installed"
     mkdir -p "$installed/$name/include" "$installed/$name/bin"
     echo kept > "$installed/$name/include/other.h"
     # An earlier version, and one of another name.
-    mkdir "$installed/$name/lib"
-    touch "$installed/$name/lib/$shared.0.earlier" "$installed/$name/lib/libresidues.so.0"
+    mkdir -p "$installed/$name/lib/${others[0]}"
+    touch "$installed/$name/lib/"{"$shared.0.earlier",libresidues.so.0,"${others[1]}"}
     (cd "$installed" && "$here/../install" --built "$lib/libresidues.a" "$lister" "$name" > "$build/printed")
     # Again, over itself.
     (cd "$installed" && "$here/../install" --built "$lib/libresidues.a" "$lister" "$name" > "$build/printed")
@@ -26,7 +29,6 @@ use_pkg_config() {
     eval "cc $flags \"\$here/../examples/apply.c\" -o \"\$build/apply-shared\"" || { echo "pkg-config says: $flags"; exit 1; }
     readelf -d "$build/apply-shared" | grep NEEDED | grep -F "[$shared]" > "$build/printed" ||
         { echo "the program does not ask for $shared"; exit 1; }
-    owe_same "$version" "$(PKG_CONFIG_PATH="$installed/$name/lib/pkgconfig" pkg-config --modversion residues)"
     owe_same "4 4 5" "$(LD_LIBRARY_PATH="$installed/$name/lib" "$build/apply-shared")"
 }
 
@@ -68,8 +70,9 @@ mkdir -p "$installed"
 refuse_odd_words
 install_deep
 install_there
-owe_same "libresidues.a libresidues.so libresidues.so.0 $shared libresidues.so.$version pkgconfig " \
-    "$(LC_ALL=C ls "$installed/$name/lib" | tr '\n' ' ')"
+owe_same "$(printf '%s\n' libresidues.a libresidues.so libresidues.so.0 "$shared" "libresidues.so.$version" "${others[@]}" pkgconfig | sort)" \
+    "$(ls "$installed/$name/lib" | sort)"
+owe_same "$version" "$(sed -n 's/^Version: //p' "$installed/$name/lib/pkgconfig/residues.pc")"
 owe_same "$shared" "$(by_shared "$installed/$name/lib/libresidues.so")"
 owe_version "$version" "$installed/$name/include" "$installed/$name/share/residues/python" "$installed/$name"/share/man/man*/*
 use_pkg_config
@@ -80,6 +83,6 @@ done
 "${within[@]}" "$installed/$name/bin/residues-lister" < "$here/../examples/M.rows" > "$build/printed"
 owe_same regular "$(tail -n 1 "$build/printed")"
 (cd "$installed" && "$here/../install" --remove "$name")
-left=$(cd "$installed" && find . | sort | tr '\n' ' ')
-owe_same ". ./$name ./$name/bin ./$name/include ./$name/include/other.h ./$name/lib " "$left"
+owe_same "$(printf '%s\n' . "./$name" "./$name"/{bin,include,include/other.h,lib} "${others[@]/#/./$name/lib/}" | sort)" \
+    "$(cd "$installed" && find . | sort)"
 echo "installed, used, and taken away"

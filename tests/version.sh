@@ -34,9 +34,9 @@ owe_version() {
     for page in "$@"; do owe_same "$owed" "$(by_page "$page")"; done
 }
 
-# In a copy, set-version puts another version in all these places, and nothing that is none.
+# In a copy, set-version puts another version in all these places. It refuses what is no version, and changes nothing then.
 set_another() {
-    local copy="$build/another version"
+    local copy="$build/another version" word
     rm -rf "$copy"
     mkdir -p "$copy/docs"
     cp -r "$tree/set-version" "$tree/VERSION" "$tree/include" "$tree/python" "$copy"
@@ -44,14 +44,31 @@ set_another() {
     "$copy/set-version" 12.345.6
     owe_same 12.345.6 "$(cat "$copy/VERSION")"
     owe_version 12.345.6 "$copy/include" "$copy/python" "$copy"/docs/man/*
-    ! "$copy/set-version" 12.345 2> "$build/printed" || { echo "set-version takes 12.345"; exit 1; }
+    for word in 12.345 12.345.06 v1.0.0 1.0.0-1 "1.0.0 2"; do
+        ! "$copy/set-version" "$word" 2> "$build/printed" || { echo "set-version takes $word"; exit 1; }
+    done
+    ! "$copy/set-version" 1.0.0 1.0.0 2> "$build/printed" || { echo "set-version takes two words"; exit 1; }
     owe_same 12.345.6 "$(cat "$copy/VERSION")"
 }
 
+# Each note on a request names a version of the changelog, and the index of notes the same.
+check_notes() {
+    local note name told
+    for note in "$tree"/docs/changes/M-*.md; do
+        name=$(basename "$note" .md)
+        told=$(sed -n 's/^Version \([0-9.]*[0-9]\).*/\1/p' "$note")
+        grep -qF "## $told," "$tree/CHANGELOG.md" || { echo "$name tells version '$told', which CHANGELOG.md has not"; exit 1; }
+        grep -F "| [$name]($name.md) " "$tree/docs/changes/README.md" | grep -qF "| $told |" ||
+            { echo "no row for $name with $told in docs/changes/README.md"; exit 1; }
+    done
+}
+
 echo "== the version, where it is told"
+# The Python tests use this shared library too.
 "$tree/link-shared" "$lib/libresidues.a" "$build/libresidues.so"
 owe_same "$shared" "$(by_shared "$build/libresidues.so")"
 owe_version "$version" "$tree/include" "$tree/python" "$tree"/docs/man/*
 owe_same "## $version" "$(grep '^## ' "$tree/CHANGELOG.md" | head -n 1 | cut -d , -f 1)"
 set_another
+check_notes
 echo "$version everywhere"

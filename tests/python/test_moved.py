@@ -157,6 +157,7 @@ SAME = [
     ("proofs of laws with the same statement", "5 stayed, 0 moved"),
     ("contracts", "4 stayed, 0 moved, 0 new, 0 gone, 0 elsewhere"),
     ("code", "8 stayed, 0 moved, 0 new, 0 gone, 0 elsewhere"),
+    ("imports, by file", "3 stayed, 0 moved, 0 new, 0 gone, 0 elsewhere"),
     ("proof files", "3 untouched, 0 touched, 0 renamed, 0 new, 0 gone"),
     ("edits that must fail", "1 untouched, 0 touched, 0 renamed, 0 new, 0 gone"),
 ]
@@ -269,6 +270,7 @@ statements of laws: 5 stayed, 0 moved, 0 new, 0 gone, 0 elsewhere
 proofs of laws with the same statement: 5 stayed, 0 moved
 contracts: 4 stayed, 0 moved, 0 new, 0 gone, 0 elsewhere
 code: 8 stayed, 0 moved, 0 new, 0 gone, 0 elsewhere
+imports, by file: 3 stayed, 0 moved, 0 new, 0 gone, 0 elsewhere
 proof files: 3 untouched, 0 touched, 0 renamed, 0 new, 0 gone
 edits that must fail: 1 untouched, 0 touched, 0 renamed, 0 new, 0 gone
 lines: specs +0 -0, src +0 -0, proofs +0 -0, must-fail +0 -0, tests +0 -0, bench +0 -0, docs +0 -0, the rest +0 -0
@@ -298,13 +300,11 @@ lines: specs +0 -0, src +0 -0, proofs +0 -0, must-fail +0 -0, tests +0 -0, bench
         self.edit(CODE, "    show(b\"} // \");\n", "    // show(b\"} // \");\n    show(b\"} // \"); // }\n")
         self.check({}, src="+5 -3")
 
-    def test_no_declarations(self):
-        self.edit(ONE, "use lib.Nat.{ℕ, _+_,\n    suc}\n", "use lib.Nat.{ℕ}\nuse lib.Bool.{Bool}\n")
-        self.edit(ONE, "infixl 65 _⊕_\n", "infixl 66 _⊕_\n")
-        self.edit(ONE, "  open Ring P using (car)\n", "  open Ring P using (car, zero)\n")
-        self.edit(CODE, "use two::{Pair, Word};\n", "use two::Pair;\n")
-        self.edit(CODE, "mod other;\n", "")
-        self.check({}, specs="+4 -4", src="+1 -2")
+    def test_order_of_imports(self):
+        self.edit(ONE, "use lib.Nat.{ℕ, _+_,\n    suc}\n", "use lib.Nat.{ℕ, _+_, suc}\n")
+        self.append(ONE, "\n" + self.take(ONE, "infixl 65 _⊕_\n"))
+        self.append(CODE, "\n" + self.take(CODE, "use two::{Pair, Word};\n"))
+        self.check({}, specs="+3 -3", src="+2 -1")
 
     def test_work_tree(self):
         self.edit(ONE, "width r = 1 + r", "width r = 2 + r")
@@ -314,6 +314,56 @@ lines: specs +0 -0, src +0 -0, proofs +0 -0, must-fail +0 -0, tests +0 -0, bench
         self.write("crates/one/specs/More.antt", "of no kind")
         self.assertEqual(self.run_script("HEAD"), (status, printed, error))
         self.assertEqual((status, error), (0, ""))
+
+
+class ImportsTest(Case):
+    """What a file imports, and how its operators bind."""
+
+    def moved(self, path, **lines):
+        self.check({
+            "imports, by file": "2 stayed, 1 moved, 0 new, 0 gone, 0 elsewhere\nmoved      " + path,
+        }, **lines)
+
+    def test_use(self):
+        self.edit(ONE, "    suc}\n", "    zero as suc}\n")
+        self.moved("one/specs/Words.antt", specs="+1 -1")
+
+    def test_open(self):
+        self.edit(ONE, "  open Ring P using (car)\n", "  open Ring P using (car, zero)\n")
+        self.moved("one/specs/Words.antt", specs="+1 -1")
+
+    def test_fixity(self):
+        self.edit(ONE, "infixl 65 _⊕_\n", "infixl 66 _⊕_\n")
+        self.moved("one/specs/Words.antt", specs="+1 -1")
+
+    def test_code(self):
+        self.edit(CODE, "ghost use one.specs.Words.{width, _⊕_};\n", "ghost use one.specs.Weaker.{width, _⊕_};\n")
+        self.moved("one/src/lib.rt", src="+1 -1")
+
+    def test_module(self):
+        self.edit(CODE, "mod other;\n", "mod another;\n")
+        self.moved("one/src/lib.rt", src="+1 -1")
+
+    def test_renamed_file(self):
+        self.write("crates/two/specs/Many.antt", "".join("use lib.Part%d.{part}\n" % k for k in range(10)))
+        self.commit()
+        self.rename("crates/two/specs/Many.antt", "crates/two/specs/More.antt")
+        self.edit("crates/two/specs/More.antt", "lib.Part4", "lib.Part04")
+        self.check({
+            "imports, by file": """3 stayed, 1 moved, 0 new, 0 gone, 0 elsewhere
+moved      two/specs/Many.antt -> two/specs/More.antt""",
+        }, specs="+1 -1")
+
+    def test_new_and_gone(self):
+        self.edit("crates/one/specs/Lib.antt", "pub mod Words\n", "-- nothing\n")
+        self.write("crates/two/specs/Lib.antt", "pub mod Words\n")
+        self.append(CODE_TWO, "\nuse one::Half;\n")
+        self.check({
+            "imports, by file": """2 stayed, 0 moved, 2 new, 1 gone, 0 elsewhere
+new        two/specs/Lib.antt
+new        two/src/main.rt
+gone       one/specs/Lib.antt""",
+        }, specs="+2 -1", src="+2 -0")
 
 
 class SpecTest(Case):
@@ -365,6 +415,7 @@ moved      one/specs/Words.antt  width""",
 moved      one/specs/Words.antt  gap-is
 moved      one/specs/Words.antt  has""",
             "proofs of laws with the same statement": "3 stayed, 0 moved",
+            "imports, by file": "2 stayed, 1 moved, 0 new, 0 gone, 0 elsewhere\nmoved      one/specs/Words.antt",
         }, specs="+1 -1")
 
     def test_inner_parameter(self):
@@ -652,14 +703,14 @@ gone       one::plain""",
     def test_blocks(self):
         self.append(CODE_TWO, """
 mod inner {
-    pub(crate) fn f() {}
+    pub fn f() {}
 }
 
-impl<T> Whole<T> {
-    const fn g() {}
+impl<'a> Whole<'a> {
+    fn g() {}
 }
 
-unsafe fn h()
+fn h()
     requires { ⌜ c '{' ⌝ }
 {
 }
@@ -804,6 +855,7 @@ statements of laws: 4 stayed, 0 moved, 1 new, 0 gone, 0 elsewhere
 proofs of laws with the same statement: 4 stayed, 0 moved
 contracts: 4 stayed, 0 moved, 0 new, 0 gone, 0 elsewhere
 code: 8 stayed, 0 moved, 0 new, 0 gone, 0 elsewhere
+imports, by file: 3 stayed, 0 moved, 0 new, 0 gone, 0 elsewhere
 proof files: 3 untouched, 0 touched, 0 renamed, 0 new, 0 gone
 edits that must fail: 1 untouched, 0 touched, 0 renamed, 0 new, 0 gone
 lines: specs +2 -0, src +0 -0, proofs +0 -0, must-fail +0 -0, tests +0 -0, bench +0 -0, docs +0 -0, the rest +0 -0

@@ -12,6 +12,7 @@ enum Term {
     Text(String),
 }
 
+type Functions<'a> = BTreeMap<&'a str, &'a Term>;
 type Told<T> = Result<T, String>;
 
 fn main() -> ExitCode {
@@ -33,7 +34,8 @@ fn told(arguments: &[String]) -> Told<bool> {
     let text = std::fs::read_to_string(file).map_err(|error| format!("{file}: {error}"))?;
     let program = parsed(&text)?;
     let functions = functions(&program)?;
-    let reached = reached(root, &functions)?;
+    let mut reached = BTreeSet::new();
+    reach(root, &functions, &mut Vec::new(), &mut reached)?;
     let (words, holder) = longest(&reached, &functions)?;
     println!("{root} reaches {} functions; their longest array has {words} words, in {holder}", reached.len());
     Ok(words <= limit)
@@ -42,7 +44,7 @@ fn told(arguments: &[String]) -> Told<bool> {
 // ---- The functions of a program, and what they call.
 
 /// Every `fn-def "NAME" BODY`, by name.
-fn functions(program: &Term) -> Told<BTreeMap<&str, &Term>> {
+fn functions(program: &Term) -> Told<Functions<'_>> {
     let mut found = BTreeMap::new();
     let mut twice = None;
     program.each(&mut |term| {
@@ -58,33 +60,42 @@ fn functions(program: &Term) -> Told<BTreeMap<&str, &Term>> {
     }
 }
 
-/// The function and all that it calls, and so on.
-fn reached<'a>(root: &str, functions: &BTreeMap<&'a str, &'a Term>) -> Told<BTreeSet<&'a str>> {
-    let mut reached = BTreeSet::new();
-    let mut open = vec![root];
-    while let Some(name) = open.pop() {
-        let (&name, &function) = functions.get_key_value(name).ok_or_else(|| format!("there is no function {name}"))?;
-        if reached.insert(name) {
-            open.extend(calls(function)?);
-        }
+/// Adds the function to those reached, and all that it calls, and so on. `above` are those that led to it: none may be recursive, since
+/// each turn keeps arrays of its own.
+fn reach<'a>(name: &str, functions: &Functions<'a>, above: &mut Vec<&'a str>, reached: &mut BTreeSet<&'a str>) -> Told<()> {
+    let (&name, &function) = functions.get_key_value(name).ok_or_else(|| format!("there is no function {name}"))?;
+    if above.contains(&name) {
+        return Err(format!("{name} is recursive"));
     }
-    Ok(reached)
+    if reached.insert(name) {
+        above.push(name);
+        for callee in calls(function).map_err(|account| format!("{name}: {account}"))? {
+            reach(callee, functions, above, reached)?;
+        }
+        above.pop();
+    }
+    Ok(())
 }
 
-/// The names that a function calls, or names otherwise. A call of anything but a named function is not known.
+/// The names that a function calls, or names otherwise. A call of what has no name, or a body in C, is not known.
 fn calls(function: &Term) -> Told<Vec<&str>> {
     let mut names = Vec::new();
-    let mut odd = false;
+    let mut odd = None;
     function.each(&mut |term| {
         if let Some([Term::Text(name)]) = term.parts("fnRef") {
             names.push(name.as_str());
         }
-        odd |= term.parts("call").is_some_and(|parts| !parts.first().is_some_and(is_direct));
+        if term.parts("call").is_some_and(|parts| !parts.first().is_some_and(is_direct)) {
+            odd = Some("a call of what has no name");
+        }
+        if term.parts("foreign").is_some() {
+            odd = Some("a body in C");
+        }
     });
-    if odd {
-        return Err("a call of what has no name".into());
+    match odd {
+        Some(account) => Err(account.into()),
+        None => Ok(names),
     }
-    Ok(names)
 }
 
 fn is_direct(callee: &Term) -> bool {
@@ -94,7 +105,7 @@ fn is_direct(callee: &Term) -> bool {
 // ---- Arrays.
 
 /// The longest array of the functions, in words, and the function that has it.
-fn longest<'a>(reached: &BTreeSet<&'a str>, functions: &BTreeMap<&'a str, &'a Term>) -> Told<(u64, &'a str)> {
+fn longest<'a>(reached: &BTreeSet<&'a str>, functions: &Functions<'a>) -> Told<(u64, &'a str)> {
     let mut longest = (0, "none");
     for name in reached {
         for words in arrays(functions[name]).map_err(|account| format!("{name}: {account}"))? {
@@ -144,7 +155,7 @@ fn words(kind: &Term, named: &BTreeMap<&str, &Term>) -> Told<u64> {
     match (kind.head(), kind.tail()) {
         ("tyUnit" | "tnil" | "ttnil", []) => Ok(0),
         ("tyBool", []) => Ok(1),
-        ("tyPtr" | "tyRef", _) => Ok(2),
+        ("tyRef", _) => Ok(2),
         ("tyInt" | "tyFloat", [bits]) => Ok(bits.number()?.div_ceil(32)),
         ("tyArray", [element, length]) => Ok(words(element, named)?.saturating_mul(count(length)?)),
         ("tcons" | "ttcons" | "fields", types) => all(types),
