@@ -1,6 +1,6 @@
 //! Finds the arrays that a function, or what it calls, keeps to itself or holds in a struct, in what `rt mir CRATE` prints.
 //! `private_arrays WORDS MIR FUNCTION` tells the longest one. It ends with status 1 where that is longer than WORDS words of 32 bits, and
-//! with status 2 where it cannot tell: a FUNCTION that is not there, a form that it does not know.
+//! with status 2 where it cannot tell: a function that is not there, is recursive or is written in C, a form that it does not know.
 
 use std::collections::{BTreeMap, BTreeSet};
 use std::process::ExitCode;
@@ -148,8 +148,7 @@ fn named(function: &Term) -> BTreeMap<&str, &Term> {
     found
 }
 
-/// The words of a type: a number has one for every 32 bits, begun ones too; an enum has one more than
-/// all its variants together.
+/// The words of a type: a number has one for every 32 bits, begun ones too; an enum has one more than all its variants together.
 fn words(kind: &Term, named: &BTreeMap<&str, &Term>) -> Told<u64> {
     let all = |types: &[Term]| types.iter().try_fold(0u64, |sum, one| Ok(sum.saturating_add(words(one, named)?)));
     match (kind.head(), kind.tail()) {
