@@ -1,5 +1,5 @@
 -- A leading corner is singular exactly from the first zero pivot on: no corner before it is, and the one that ends at its row is.
-use mathlib.Core.Logic.{_≢_, _⊎_, inl, inr}
+use mathlib.Core.Logic.{_≢_, _↔_, _⊎_, inl, inr}
 use mathlib.Core.Path.{_≡_, sym, ap, _∙_, fun-ext}
 use Prim.Native.Nat.{ℕ, zero, suc, _<_, _≤_}
 use native.Mathlib.Decide.{decLt, ℕ-discrete}
@@ -9,7 +9,8 @@ use Rattle.algebra.specs.Sums.{sumTo}
 use Rattle.algebra.specs.RingLaws.{mul-zero}
 use Rattle.algebra.specs.SumLaws.{sum-zero}
 use Rattle.algebra.specs.Matrix.{Singular, LeastSingular}
-use Rattle.algebra.specs.Generators.{Gens, entryOf, pivots}
+use Rattle.algebra.specs.Generators.{Gens, entryOf, transposeG, pivots}
+use Rattle.algebra.specs.TransposeTable.{transpose-pivots}
 use Rattle.algebra.specs.InverseTable.{one-to-one}
 use Rattle.algebra.specs.SolveTable.{kernel, kernel-last, kernel-sent}
 
@@ -72,3 +73,16 @@ module _ {K : Ring} (F : Field K) (r s : ℕ → ℕ) (c : ℕ → Gens K) where
       go : Regular r s c N ⊎ ((k : ℕ) × (k < N) × FirstZero r s c k) → Regular r s c N
       go (inl ok) = ok
       go (inr z) = absurd (none (suc (z .0)) (z .1) (corner-singular (z .0) (z .2)))
+
+-- The transposed table has the least singular corner where the table has it; transposed twice, it is the table again.
+least-turned : {K : Ring} (F : Field K) (r s : ℕ → ℕ) (c : ℕ → Gens K) (N k : ℕ)
+    → LeastSingular K N (entryOf r s c) k → LeastSingular K N (entryOf s r (λ k. transposeG (c k))) k
+least-turned F r s c N zero y = absurd (omega (arith, y .from))
+least-turned F r s c N (suc k) y =
+    let z = singular-first F r s c N k y in
+    least-singular F s r (λ k. transposeG (c k)) N k (y .upto)
+    (transpose-pivots r s c k ∙ z .0, λ j l e. z .1 j l (sym (transpose-pivots r s c j) ∙ e))
+
+pub transpose-least : {K : Ring} (F : Field K) (r s : ℕ → ℕ) (c : ℕ → Gens K) (N k : ℕ)
+    → LeastSingular K N (entryOf r s c) k ↔ LeastSingular K N (entryOf s r (λ k. transposeG (c k))) k
+transpose-least F r s c N k = (least-turned F r s c N k, least-turned F s r (λ k. transposeG (c k)) N k)

@@ -1,10 +1,11 @@
 -- Finite sums in a ring.
+use mathlib.Core.Logic.{_≢_}
 use mathlib.Core.Path.{_≡_, sym, _∙_, ap, fun-ext}
 use Prim.Native.Nat.{ℕ, zero, suc, _<_}
 use Rattle.algebra.specs.Ring.{Ring}
 use Rattle.algebra.specs.Sums.{dot, fold, sumTo}
 use Rattle.algebra.specs.RingLaws.{add-mul, mul-zero, zero-mul}
-use Rattle.algebra.specs.Totals.{total-ext, total-op, total-add, total-zero}
+use Rattle.algebra.specs.Totals.{total-ext, total-op, total-add, total-zero, total-single}
 use Rattle.algebra.specs.Coord.{self}
 
 module _ (K : Ring) where
@@ -23,6 +24,11 @@ module _ (K : Ring) where
   pub sum-zero : (n : ℕ) → sumTo K n (λ j. K .zero) ≡ K .zero
   unfolding self
   sum-zero = total-zero (self K)
+
+  -- a sum in which one term alone is not zero
+  pub sum-single : (n k : ℕ) (f : ℕ → car) → k < n → ((j : ℕ) → j < n → j ≢ k → f j ≡ K .zero) → sumTo K n f ≡ f k
+  unfolding self
+  sum-single = total-single (self K)
 
   -- scaling, from either side
   pub mul-sum : (t : car) (n : ℕ) (f : ℕ → car) → t ⊗ sumTo K n f ≡ sumTo K n (λ j. t ⊗ f j)

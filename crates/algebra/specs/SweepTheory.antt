@@ -7,7 +7,7 @@ use Rattle.algebra.specs.Sums.{act}
 use Rattle.algebra.specs.RingLaws.{mul-one}
 use Rattle.algebra.specs.RingSolver.{quotes, ring₄}
 use Rattle.algebra.specs.Matrix.{columnOf, sends, plusM, timesM, identity, Same, Singular, LeastSingular}
-use Rattle.algebra.specs.Generators.{Gens, entryOf, multipleG, transposeG, sumsG, productsG, pivotG, rowG, vG, yG, fG, inversesG, solvedG, sentG}
+use Rattle.algebra.specs.Generators.{Gens, entryOf, multipleG, transposeG, sumsG, productsG, pivots, pivotG, rowG, vG, yG, fG, inversesG, solvedG, sentG}
 use Rattle.algebra.specs.Kinds.{Agree}
 use Rattle.algebra.specs.Linear.{Mod, Hom, total}
 use Rattle.algebra.specs.Run.{Row, Run}
@@ -19,10 +19,10 @@ use Rattle.algebra.specs.Agree.{entries-agree}
 use Rattle.algebra.specs.ApplyTable.{swept}
 use Rattle.algebra.specs.ProductTable.{product-matrix}
 use Rattle.algebra.specs.SumTable.{sum-matrix, multiple-matrix}
-use Rattle.algebra.specs.TransposeTable.{transpose-matrix}
+use Rattle.algebra.specs.TransposeTable.{transpose-matrix, transpose-pivots}
 use Rattle.algebra.specs.InverseTable.{table-inverse, inverse-table, one-to-one}
 use Rattle.algebra.specs.SolveTable.{solution}
-use Rattle.algebra.specs.SingularCorner.{Regular, FirstZero, regular-corner, corners-regular, least-singular, singular-first}
+use Rattle.algebra.specs.SingularCorner.{Regular, FirstZero, regular-corner, corners-regular, least-singular, singular-first, transpose-least}
 
 -- I. Over maps between any modules: I and O hold the words of columns, L and U the lower and the upper states. A row is seven maps, a run of N rows is
 -- an input x, an output y and a state at every gap, bound by the three equations of each row (Run.antt).
@@ -75,6 +75,9 @@ module _ {K : Ring} (r s : ℕ → ℕ) (c : ℕ → Gens K) where
   pub transpose-stands : (i j : ℕ) → entryOf s r (λ k. transposeG (c k)) i j ≡ entryOf r s c j i
   transpose-stands = transpose-matrix r s c
 
+  pub transpose-keeps-pivots : (k : ℕ) → pivots s r (λ k. transposeG (c k)) k ≡ pivots r s c k
+  transpose-keeps-pivots = transpose-pivots r s c
+
   pub multiple-stands : (t : K .car) (i j : ℕ) → entryOf r s (λ k. multipleG t (c k)) i j ≡ K .mul t (entryOf r s c i j)
   multiple-stands t = multiple-matrix t r s c
 
@@ -123,3 +126,7 @@ module _ {K : Ring} (F : Field K) (r s : ℕ → ℕ) (c : ℕ → Gens K) (N : 
 
   pub regular-corners : Regular r s c N ↔ ((j : ℕ) → j ≤ N → Singular K (entryOf r s c) j → ⊥)
   regular-corners = ((λ ok j h. regular-corner F r s c N j h ok), corners-regular F r s c N)
+
+  -- The transposed table's least singular corner is the table's.
+  pub transpose-singular : (k : ℕ) → LeastSingular K N (entryOf r s c) k ↔ LeastSingular K N (entryOf s r (λ k. transposeG (c k))) k
+  transpose-singular = transpose-least F r s c N

@@ -7,7 +7,7 @@ use native.Mathlib.Omega.{arith}
 use lib.ListN.{length, drop, length-append, length-drop}
 use borrow.Author.Tests.{eq-eqb}
 use Rattle.table.specs.Words.{table, width}
-use Rattle.table.specs.WordLaws.{length-table}
+use Rattle.table.specs.WordLaws.{width-swap, length-table}
 use Rattle.table.specs.Replies.{Reply, Accepted, after}
 use Rattle.table.specs.Results.{transposeW, multipleW}
 use Rattle.table.specs.CallLaws.{kept}
@@ -26,7 +26,7 @@ written-length ys d out n l h e = ap length e ∙ length-append ys (drop n d) �
 module _ (P N r s : ℕ) (t : List ℕ) where
   pub transpose-length : length (transposeW P N (table r s t)) ≡ N * width r s
   unfolding transposeW
-  transpose-length = let swapped : width s r ≡ width r s = omega arith in length-table P N s r _ [] ∙ ap (λ (n : ℕ). N * n) swapped
+  transpose-length = length-table P N s r _ [] ∙ ap (λ (n : ℕ). N * n) (width-swap r s)
 
   pub multiple-length : (c : ℕ) → length (multipleW P N (table r s t) c) ≡ N * width r s
   unfolding multipleW

@@ -39,7 +39,7 @@ causes = record {
 }
 
 -- The checks of the calls: each is clear exactly where what it asks for is there.
-numbers : (P N : ℕ) → badPrime (standard .prime) P ≡ false → badSize (standard .size) N ≡ false → GoodNumbers P N
+pub numbers : (P N : ℕ) → badPrime (standard .prime) P ≡ false → badSize (standard .size) N ≡ false → GoodNumbers P N
 numbers P N p n = let a = causes .prime (standard .prime) P .0 p in let b = causes .size (standard .size) N .0 n in (a .0, a .1, b .0, b .1)
 
 prime-clear : (P N : ℕ) → GoodNumbers P N → badPrime (standard .prime) P ≡ false
@@ -62,7 +62,7 @@ module _ (P N : ℕ) where
   corners A prime = Iff·trans (none-row (firstZero P N A)) (regular-none P N A prime, none-regular P N A prime)
 
   -- a table by its three checks
-  good : (A : Table) → badOrder (standard .order) (A .lower) (A .upper) ≡ false → short (A .words) (tableLength N A) ≡ false → ltb 0 (firstBad P N A) ≡ false → GoodTable P N A
+  pub good : (A : Table) → badOrder (standard .order) (A .lower) (A .upper) ≡ false → short (A .words) (tableLength N A) ≡ false → ltb 0 (firstBad P N A) ≡ false → GoodTable P N A
   good A o l w = (orders (A .lower) (A .upper) .0 o, ltb-false _ _ l, words A .0 w)
 
   orders-clear : (A : Table) → GoodTable P N A → badOrder (standard .order) (A .lower) (A .upper) ≡ false

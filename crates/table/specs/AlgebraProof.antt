@@ -37,6 +37,10 @@ gap-plus N r s = fun-ext (λ k. go (outer N k))
     go true = refl
     go false = refl
 
+-- what the pivots' check answers, where no earlier one holds: m is the row of the first zero pivot, or 0
+abbrev pub atPivot : ℕ → Reply
+atPivot m = pick (ltb 0 m) (refuse 7 1 m) (accept 0)
+
 module _ (P N : ℕ) where
   pub sum-stands : (A B : Table) (d : List ℕ) → Accepted (sumReply P N A B d) → Same (residues P) N (matrixOf P N (sumT P N A B d)) (plusM (residues P) (matrixOf P N A) (matrixOf P N B))
   unfolding sumW matrixOf
@@ -171,23 +175,22 @@ module _ (P N : ℕ) where
   solve-words′ : (A : Table) (x v d : List ℕ) → Accepted (solveReply P N A x v d) → (k : ℕ) → k < N → val P (sends (residues P) N (matrixOf P N A) (column P (solveAfter P N A x v d)) k) ≡ getD x k 0
   solve-words′ A x v d ok k h = ap (val P) (solve-sends A x v d ok k h) ∙ val-small P (prime-pos P (solve-prime A x v d ok)) (getD x k 0) (accepts P N A .solve x v d .0 ok .2 .1 k h)
 
-  -- the pivots' check, where no earlier one holds
-  pivot-reply : (m : ℕ) → answer (record { cause = ltb 0 m; refusal = refuse 7 1 m } ∷ []) (accept 0) ≡ pick (ltb 0 m) (refuse 7 1 m) (accept 0)
+  pivot-reply : (m : ℕ) → answer (record { cause = ltb 0 m; refusal = refuse 7 1 m } ∷ []) (accept 0) ≡ atPivot m
   unfolding answer
   pivot-reply m = refl
 
-  at-row : (m : ℕ) → 1 ≤ m → pick (ltb 0 m) (refuse 7 1 m) (accept 0) ≡ refuse 7 1 m
+  at-row : (m : ℕ) → 1 ≤ m → atPivot m ≡ refuse 7 1 m
   at-row m h = rw (lt-ltb 0 m h)
 
-  refused-at : (m k : ℕ) → pick (ltb 0 m) (refuse 7 1 m) (accept 0) ≡ refuse 7 1 k → (m ≡ k) × (0 < k)
+  refused-at : (m k : ℕ) → atPivot m ≡ refuse 7 1 k → (m ≡ k) × (0 < k)
   refused-at zero k e = absurd (let z : _≡_ {A = ℕ} 0 7 = ap (λ (y : Reply). y .number) e in omega arith)
   refused-at (suc m) k e = let z : suc m ≡ k = ap (λ (y : Reply). y .row) (sym (at-row (suc m) (omega arith)) ∙ e) in (z, omega arith)
 
-  accepted-at : (m : ℕ) → Accepted (pick (ltb 0 m) (refuse 7 1 m) (accept 0)) → m ≡ 0
+  accepted-at : (m : ℕ) → Accepted (atPivot m) → m ≡ 0
   accepted-at zero e = refl
   accepted-at (suc m) e = absurd (let z : _≡_ {A = ℕ} 7 0 = ap (λ (y : Reply). y .number) (sym (at-row (suc m) (omega arith))) ∙ e in omega arith)
 
-  module _ (A : Table) (prime : Prime P) (y : Reply) (o : y ≡ pick (ltb 0 (firstZero P N A)) (refuse 7 1 (firstZero P N A)) (accept 0)) where
+  module _ (A : Table) (prime : Prime P) (y : Reply) (o : y ≡ atPivot (firstZero P N A)) where
     exactly : (k : ℕ) → (y ≡ refuse 7 1 k) ↔ LeastSingular (residues P) N (matrixOf P N A) k
     exactly k = (there, back)
       where
@@ -195,7 +198,7 @@ module _ (P N : ℕ) where
         there e = let q = refused-at (firstZero P N A) k (sym o ∙ e) in least-singular P N A prime k (q .0) (q .1)
 
         back : LeastSingular (residues P) N (matrixOf P N A) k → y ≡ refuse 7 1 k
-        back z = o ∙ ap (λ (m : ℕ). pick (ltb 0 m) (refuse 7 1 m) (accept 0)) (singular-first P N A prime k z) ∙ at-row k (z .from)
+        back z = o ∙ ap atPivot (singular-first P N A prime k z) ∙ at-row k (z .from)
 
     regular-accepts : Accepted y ↔ ((k : ℕ) → k ≤ N → Singular (residues P) (matrixOf P N A) k → ⊥)
     regular-accepts = (there, back)
@@ -204,13 +207,13 @@ module _ (P N : ℕ) where
         there e = regular-none P N A prime (accepted-at (firstZero P N A) (ap (λ (y : Reply). y .number) (sym o) ∙ e))
 
         back : ((k : ℕ) → k ≤ N → Singular (residues P) (matrixOf P N A) k → ⊥) → Accepted y
-        back n = ap (λ (y : Reply). y .number) o ∙ ap (λ (m : ℕ). pick (ltb 0 m) (refuse 7 1 m) (accept 0) .number) (none-regular P N A prime n)
+        back n = ap (λ (y : Reply). y .number) o ∙ ap (λ (m : ℕ). atPivot m .number) (none-regular P N A prime n)
 
-  solve-open : (A : Table) (x v d : List ℕ) → NoFault (solveEarlier P N A x v d) → solveReply P N A x v d ≡ pick (ltb 0 (firstZero P N A)) (refuse 7 1 (firstZero P N A)) (accept 0)
+  pub solve-open : (A : Table) (x v d : List ℕ) → NoFault (solveEarlier P N A x v d) → solveReply P N A x v d ≡ atPivot (firstZero P N A)
   unfolding solveReply
   solve-open A x v d z = answer-append (solveEarlier P N A x v d) (checkPivots P N A ∷ []) (accept 0) ∙ open-checks (solveEarlier P N A x v d) _ z ∙ pivot-reply (firstZero P N A)
 
-  inverse-open : (A : Table) (d : List ℕ) → NoFault (inverseEarlier P N A d) → inverseReply P N A d ≡ pick (ltb 0 (firstZero P N A)) (refuse 7 1 (firstZero P N A)) (accept 0)
+  pub inverse-open : (A : Table) (d : List ℕ) → NoFault (inverseEarlier P N A d) → inverseReply P N A d ≡ atPivot (firstZero P N A)
   unfolding inverseReply
   inverse-open A d z = answer-append (inverseEarlier P N A d) (checkPivots P N A ∷ []) (accept 0) ∙ open-checks (inverseEarlier P N A d) _ z ∙ pivot-reply (firstZero P N A)
 

@@ -15,5 +15,7 @@ pub mod AcceptsProof
 pub mod AlgebraProof
 pub mod PackedProof
 pub mod UndertakingsProof
+pub mod Identities
+pub mod IdentitiesProof
 pub mod Lister
 pub mod ListerLaws

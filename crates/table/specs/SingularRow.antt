@@ -1,5 +1,6 @@
 -- The row that the pivot sweep yields is that of the least singular leading corner.
-use mathlib.Core.Path.{_≡_, sym, ap, _∙_}
+use mathlib.Core.Logic.{_↔_}
+use mathlib.Core.Path.{_≡_, refl, sym, ap, _∙_}
 use Prim.Native.Nat.{ℕ, zero, suc, _<_, _≤_}
 use native.Mathlib.Omega.{arith}
 use lib.Dec.{eqb}
@@ -71,3 +72,14 @@ module _ (P N : ℕ) (A : Table) (prime : Prime P) where
   pub none-regular : ((j : ℕ) → j ≤ N → Singular K (matrixOf P N A) j → ⊥) → firstZero P N A ≡ 0
   unfolding matrixOf
   none-regular n = regular-is (Corner.corners-regular (field P prime) r s (gens P N A) N n)
+
+-- where the least singular corners of two tables are the same, so is the row of the first zero pivot
+pub same-first-zero : (P N : ℕ) (A B : Table) → Prime P
+    → ((k : ℕ) → LeastSingular (residues P) N (matrixOf P N A) k ↔ LeastSingular (residues P) N (matrixOf P N B) k)
+    → firstZero P N A ≡ firstZero P N B
+same-first-zero P N A B prime same = go (firstZero P N A) (firstZero P N B) refl refl
+  where
+    go : (a b : ℕ) → firstZero P N A ≡ a → firstZero P N B ≡ b → a ≡ b
+    go zero zero e f = refl
+    go (suc a) b e f = sym (singular-first P N B prime (suc a) (same (suc a) .0 (least-singular P N A prime (suc a) e (omega arith)))) ∙ f
+    go zero (suc b) e f = sym e ∙ singular-first P N A prime (suc b) (same (suc b) .1 (least-singular P N B prime (suc b) f (omega arith)))

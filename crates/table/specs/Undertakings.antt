@@ -299,11 +299,11 @@ PermutedReadsSame = (π : ℕ → ℕ) (f f′ d : List ℕ) → Permuted π f f
 -- 3. "A generator table obeys the algebra of the matrix it stands for. Whatever tables and columns are handed in, wherever the calls accept:"
 module _ (P N : ℕ) where
   -- the matrix that a table stands for
-  abbrev mat : Table → Matrix (residues P)
+  abbrev pub mat : Table → Matrix (residues P)
   mat A = matrixOf P N A
 
   -- two tables stand for the same matrix
-  abbrev Alike : Table → Table → Type 0
+  abbrev pub Alike : Table → Table → Type 0
   Alike A B = Same (residues P) N (mat A) (mat B)
 
   -- the sum call accepts, with the lent result d
@@ -311,7 +311,7 @@ module _ (P N : ℕ) where
   SumAccepts A B d = Accepted (sumReply P N A B d)
 
   -- the product call accepts, with the lent result d
-  abbrev ProductAccepts : Table → Table → List ℕ → Type 0
+  abbrev pub ProductAccepts : Table → Table → List ℕ → Type 0
   ProductAccepts A B d = Accepted (productReply P N A B d)
 
   -- the apply call accepts, with the column x and the lent result d

@@ -18,7 +18,7 @@ use Rattle.table.specs.Limits.{housePrime}
 use Rattle.lists.specs.Lists.{tabulate, rowsOf, firstOf}
 use Rattle.lists.specs.ListLaws.{getD-here, getD-tabulate, length-tabulate, length-rows, getD-rows-more, tabulate-same}
 use Rattle.table.specs.Words.{Table, table, withWords, gap, width, place, gens, matrixOf, rowGens, tableWords, badRow, firstBad, firstBadPlace, Used, SameUsed, SameColumn}
-use Rattle.table.specs.WordLaws.{idle-unused, place-lt, room, written, written-unused, written-good, length-table, gens-same, firstBad-same, matrix-same, row-same, bad-same, same-first, bad-first, bad-none, place-first, place-none, place-good, place-same}
+use Rattle.table.specs.WordLaws.{width-swap, idle-unused, place-lt, room, written, written-unused, written-good, length-table, gens-same, firstBad-same, matrix-same, row-same, bad-same, same-first, bad-first, bad-none, place-first, place-none, place-good, place-same}
 use Rattle.table.specs.RowFile.{fileBytes, bytesOf, primeOf, headP, headN, headR, headS, fileWord, recordAt, met, broken, firstBroken, fileRowWord, fileGens, firstBadInFile, fileWordsOf, fileWords, readW, writeW}
 use Rattle.table.specs.RowFileLaws.{chain-first, chain-none, is-right, right-met, right-end, file-bad-first, file-bad-none, below-tabulate, below-rows}
 use Rattle.table.specs.FileLaws.{left-length, writes-file, reads-back, read-length, read-chain, reads-file}
@@ -58,10 +58,7 @@ module _ (P N : ℕ) (A : Table) where
 
   transpose-length : length (transposeW P N A) ≡ tableLength N A
   unfolding transposeW
-  transpose-length = length-table P N (A .upper) (A .lower) _ [] ∙ ap (λ (n : ℕ). N * n) swapped
-    where
-      swapped : width (A .upper) (A .lower) ≡ width (A .lower) (A .upper)
-      swapped = omega arith
+  transpose-length = length-table P N (A .upper) (A .lower) _ [] ∙ ap (λ (n : ℕ). N * n) (width-swap (A .lower) (A .upper))
 
   multiple-length : (c : ℕ) → length (multipleW P N A c) ≡ tableLength N A
   unfolding multipleW

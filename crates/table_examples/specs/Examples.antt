@@ -16,11 +16,11 @@ use Rattle.table.specs.Calls.{entryReply, matrixReply, applyReply, transposeRep
 use Rattle.table.specs.Lister.{lister, text, digits}
 
 -- the four numbers of a reply
-abbrev numbersOf : Reply → List ℕ
+abbrev pub numbersOf : Reply → List ℕ
 numbersOf y = y .number ∷ y .buffer ∷ y .row ∷ y .value ∷ []
 
 -- a lent buffer of n words, and one word of surplus
-abbrev lent : ℕ → List ℕ
+abbrev pub lent : ℕ → List ℕ
 lent n = tabulate n (λ i. 88) ++ (99 ∷ [])
 
 abbrev fileM : List ℕ
