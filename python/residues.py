@@ -17,7 +17,7 @@ import os
 import struct
 
 # The library's version, which `set-version` puts here. The shared library's name has its first number.
-__version__ = "1.0.1"
+__version__ = "1.0.2"
 
 HOUSE_PRIME = 2147483647
 LARGEST_SIZE = 1024

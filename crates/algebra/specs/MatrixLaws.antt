@@ -1,4 +1,4 @@
--- The algebra of matrices: a product sends as its factors do, products are associative and distribute over sums; identity, inverses and transposes in a product.
+-- The algebra of matrices: a product sends as its factors do, products are associative and distribute over sums; identity, inverses, transposes.
 use mathlib.Core.Logic.{_≢_}
 use mathlib.Core.Path.{_≡_, refl, sym, _∙_, ap, ap₂, fun-ext}
 use Prim.Native.Nat.{ℕ, zero, suc, _<_, _≤_}
@@ -84,7 +84,7 @@ module _ (K : Ring) where
   pub transpose-times : (N : ℕ) (A B : Matrix K) (i j : ℕ) → timesM K N A B j i ≡ timesM K N (λ i j. B j i) (λ i j. A j i) i j
   transpose-times N A B i j = ap (sumTo K N) (fun-ext (λ k. K .mul-comm (A j k) (B k i)))
 
-  -- one matrix has one least singular corner
+  -- equal matrices have the same least singular corner
   corner-same : (N : ℕ) (A B : Matrix K) → Same K N A B → (k : ℕ) → k ≤ N → Singular K A k → Singular K B k
   corner-same N A B e k h z =
       (z .0, z .1, λ i l. sym (sends-same k A B (z .0) (z .0) (λ i j hi hj. e i j (omega arith) (omega arith)) (λ j m. refl) i l) ∙ z .2 i l)

@@ -75,14 +75,14 @@ module _ {K : Ring} (F : Field K) (r s : ℕ → ℕ) (c : ℕ → Gens K) where
       go (inr z) = absurd (none (suc (z .0)) (z .1) (corner-singular (z .0) (z .2)))
 
 -- The transposed table has the least singular corner where the table has it; transposed twice, it is the table again.
-least-turned : {K : Ring} (F : Field K) (r s : ℕ → ℕ) (c : ℕ → Gens K) (N k : ℕ)
+least-transposed : {K : Ring} (F : Field K) (r s : ℕ → ℕ) (c : ℕ → Gens K) (N k : ℕ)
     → LeastSingular K N (entryOf r s c) k → LeastSingular K N (entryOf s r (λ k. transposeG (c k))) k
-least-turned F r s c N zero y = absurd (omega (arith, y .from))
-least-turned F r s c N (suc k) y =
+least-transposed F r s c N zero y = absurd (omega (arith, y .from))
+least-transposed F r s c N (suc k) y =
     let z = singular-first F r s c N k y in
     least-singular F s r (λ k. transposeG (c k)) N k (y .upto)
     (transpose-pivots r s c k ∙ z .0, λ j l e. z .1 j l (sym (transpose-pivots r s c j) ∙ e))
 
 pub transpose-least : {K : Ring} (F : Field K) (r s : ℕ → ℕ) (c : ℕ → Gens K) (N k : ℕ)
     → LeastSingular K N (entryOf r s c) k ↔ LeastSingular K N (entryOf s r (λ k. transposeG (c k))) k
-transpose-least F r s c N k = (least-turned F r s c N k, least-turned F s r (λ k. transposeG (c k)) N k)
+transpose-least F r s c N k = (least-transposed F r s c N k, least-transposed F s r (λ k. transposeG (c k)) N k)

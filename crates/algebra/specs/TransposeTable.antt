@@ -64,24 +64,24 @@ module _ {K : Ring} (r s : ℕ → ℕ) (c : ℕ → Gens K) where
       go (no n) (no m) = diagonal i j (omega arith)
 
 -- The pivots of the transposed table: f transposes, g − p f b and q − a f h change places, m stays. First u f w, from either end:
-turned : (K : Ring) (n m : ℕ) (f : ℕ → ℕ → K .car) (u w : ℕ → K .car) → dot K m w (act K n (λ i j. f j i) u) ≡ dot K n u (act K m f w)
-turned K n m f u w = dot-comm K m w (act K n (λ i j. f j i) u) ∙ dot-swap K m n f u w
+dot-transposed : (K : Ring) (n m : ℕ) (f : ℕ → ℕ → K .car) (u w : ℕ → K .car) → dot K m w (act K n (λ i j. f j i) u) ≡ dot K n u (act K m f w)
+dot-transposed K n m f u w = dot-comm K m w (act K n (λ i j. f j i) u) ∙ dot-swap K m n f u w
 
 module _ {K : Ring} (r s : ℕ) (c : Gens K) (f : ℕ → ℕ → K .car) where
-  pivot-turned : pivotG s r (transposeG c) (λ i j. f j i) ≡ pivotG r s c f
-  pivot-turned = ap (minus K (c .d)) (turned K r s f (c .p) (c .h))
+  transpose-pivot : pivotG s r (transposeG c) (λ i j. f j i) ≡ pivotG r s c f
+  transpose-pivot = ap (minus K (c .d)) (dot-transposed K r s f (c .p) (c .h))
 
-  row-turned : (j : ℕ) → rowG s r (transposeG c) (λ i j. f j i) j ≡ columnG r s c f j
-  row-turned j = ap (minus K (c .q j)) (turned K r s f (c .a j) (c .h))
+  transpose-row : (j : ℕ) → rowG s r (transposeG c) (λ i j. f j i) j ≡ columnG r s c f j
+  transpose-row j = ap (minus K (c .q j)) (dot-transposed K r s f (c .a j) (c .h))
 
-  column-turned : (j : ℕ) → columnG s r (transposeG c) (λ i j. f j i) j ≡ rowG r s c f j
-  column-turned j = ap (minus K (c .g j)) (turned K r s f (c .p) (columnOf (c .b) j))
+  transpose-column : (j : ℕ) → columnG s r (transposeG c) (λ i j. f j i) j ≡ rowG r s c f j
+  transpose-column j = ap (minus K (c .g j)) (dot-transposed K r s f (c .p) (columnOf (c .b) j))
 
   -- with i for 1/m
-  next-turned : (i : K .car) (k j : ℕ) → fG s r (transposeG c) (λ i j. f j i) i k j ≡ fG r s c f i j k
-  next-turned i k j =
-      ap₂ (K .add) (turned K r s f (c .a j) (columnOf (c .b) k))
-      (ap₂ (λ x y. K .mul (K .mul x i) y) (column-turned k) (row-turned j) ∙ swap (rowG r s c f k) i (columnG r s c f j))
+  transpose-next : (i : K .car) (k j : ℕ) → fG s r (transposeG c) (λ i j. f j i) i k j ≡ fG r s c f i j k
+  transpose-next i k j =
+      ap₂ (K .add) (dot-transposed K r s f (c .a j) (columnOf (c .b) k))
+      (ap₂ (λ x y. K .mul (K .mul x i) y) (transpose-column k) (transpose-row j) ∙ swap (rowG r s c f k) i (columnG r s c f j))
     where
       swap : (x i y : K .car) → K .mul (K .mul x i) y ≡ K .mul (K .mul y i) x
       swap x i y = K .mul-comm (K .mul x i) y ∙ ap (K .mul y) (K .mul-comm x i) ∙ sym (K .mul-assoc y i x)
@@ -90,14 +90,14 @@ module _ {K : Ring} (r s : ℕ → ℕ) (c : ℕ → Gens K) where
   abbrev cT : ℕ → Gens K
   cT k = transposeG (c k)
 
-  f-turned : (k : ℕ) → fs s r cT k ≡ λ i j. fs r s c k j i
+  transpose-f : (k : ℕ) → fs s r cT k ≡ λ i j. fs r s c k j i
   unfolding fs
-  f-turned zero = refl
-  f-turned (suc k) = fun-ext (λ i. fun-ext (λ j.
-      ap (λ f. fG (s k) (r k) (cT k) f (K .inv (pivotG (s k) (r k) (cT k) f)) i j) (f-turned k)
-      ∙ ap (λ m. fG (s k) (r k) (cT k) (λ i j. fs r s c k j i) (K .inv m) i j) (pivot-turned (r k) (s k) (c k) (fs r s c k))
-      ∙ next-turned (r k) (s k) (c k) (fs r s c k) (K .inv (pivotG (r k) (s k) (c k) (fs r s c k))) i j))
+  transpose-f zero = refl
+  transpose-f (suc k) = fun-ext (λ i. fun-ext (λ j.
+      ap (λ f. fG (s k) (r k) (cT k) f (K .inv (pivotG (s k) (r k) (cT k) f)) i j) (transpose-f k)
+      ∙ ap (λ m. fG (s k) (r k) (cT k) (λ i j. fs r s c k j i) (K .inv m) i j) (transpose-pivot (r k) (s k) (c k) (fs r s c k))
+      ∙ transpose-next (r k) (s k) (c k) (fs r s c k) (K .inv (pivotG (r k) (s k) (c k) (fs r s c k))) i j))
 
   pub transpose-pivots : (k : ℕ) → pivots s r cT k ≡ pivots r s c k
   unfolding pivots
-  transpose-pivots k = ap (pivotG (s k) (r k) (cT k)) (f-turned k) ∙ pivot-turned (r k) (s k) (c k) (fs r s c k)
+  transpose-pivots k = ap (pivotG (s k) (r k) (cT k)) (transpose-f k) ∙ transpose-pivot (r k) (s k) (c k) (fs r s c k)

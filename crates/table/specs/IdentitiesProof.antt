@@ -34,7 +34,7 @@ module _ (P N : ℕ) where
   abbrev laws : Algebra P N
   laws = algebra P N
 
-  -- A call keeps the length of its result: there is room before where there is room afterwards.
+  -- A call keeps the length of its result: there is room before exactly where there is room afterwards.
   kept : {n l m : ℕ} → m ≡ l → (n ≤ l) ↔ (n ≤ m)
   kept e = ((λ h. omega arith), λ h. omega arith)
 
@@ -52,15 +52,15 @@ module _ (P N : ℕ) where
       let g = accepts P N A .inverse d .0 ok in
       left-good (inverseT P N A d) (g .1 .0) (kept (lengths P N A .inverse d) .0 (g .2)) (written-again P N A .inverse d ok)
 
-  turned-room : (A : Table) (d : List ℕ) → HasRoom P N d A ↔ (tableLength N (transposeT P N A d) ≤ length (transposeAfter P N A d))
-  turned-room A d = rw (width-swap (A .lower) (A .upper)) (kept (lengths P N A .transpose d))
+  transpose-room : (A : Table) (d : List ℕ) → HasRoom N d A ↔ (tableLength N (transposeT P N A d) ≤ length (transposeAfter P N A d))
+  transpose-room A d = rw (width-swap (A .lower) (A .upper)) (kept (lengths P N A .transpose d))
 
   transpose-good : (A : Table) (d : List ℕ) → TransposeAccepts P N A d → GoodTable P N (transposeT P N A d)
   transpose-good A d ok =
       let g = accepts P N A .transpose d .0 ok in
-      left-good (transposeT P N A d) (g .1 .0 .1, g .1 .0 .0) (turned-room A d .0 (g .2)) (written-again P N A .transpose d ok)
+      left-good (transposeT P N A d) (g .1 .0 .1, g .1 .0 .0) (transpose-room A d .0 (g .2)) (written-again P N A .transpose d ok)
 
-  -- Two good tables are multiplied where what that leaves is one.
+  -- The product of two good tables is accepted where the table left in c is good.
   product-accepted : (A B : Table) (c : List ℕ) → GoodNumbers P N → GoodTable P N A → GoodTable P N B → GoodTable P N (productT P N A B c)
       → ProductAccepts P N A B c
   product-accepted A B c n a b ab = accepts P N A .product B c .1 (n, a, b, ab .0, kept (lengths P N A .product B c) .1 (ab .1))
@@ -79,7 +79,7 @@ module _ (P N : ℕ) where
     AB = productT P N A B c
 
     module _ (d e f g : List ℕ) (ok-AB : InverseAccepts P N AB d) (ok-A : InverseAccepts P N A e) (ok-B : InverseAccepts P N B f)
-        (room : HasRoom P N g AB) where
+        (room : HasRoom N g AB) where
       abbrev A⁻¹ : Table
       A⁻¹ = inverseT P N A e
 
@@ -97,7 +97,7 @@ module _ (P N : ℕ) where
           let o = other-order (A .lower) (A .upper) (B .lower) (B .upper) g (z .1 .0) room in
           accepts P N B⁻¹ .product A⁻¹ g .1 (z .0, inverse-good B f ok-B, inverse-good A e ok-A, o .0, o .1)
 
-      -- the inverse of A B is one on the left; B⁻¹ A⁻¹ is one on the right
+      -- the inverse of A B is a left inverse of it, B⁻¹ A⁻¹ a right one
       inverses-alike : Alike P N (inverseT P N AB d) (productT P N B⁻¹ A⁻¹ g)
       inverses-alike i j hi hj =
           one-inverse K N (matrixOf P N (inverseT P N AB d)) (matrixOf P N AB) R (laws .inverse-left AB d ok-AB) right i j hi hj
@@ -111,8 +111,11 @@ module _ (P N : ℕ) where
               times-same K N (matrixOf P N AB) _ R R (laws .product A B c product-ok) (λ i j hi hj. refl) i j hi hj
               ∙ product-inverse K N _ _ _ _ (laws .inverse-right A e ok-A) (laws .inverse-right B f ok-B) i j hi hj
 
+      inverse-of-product′ : ProductAccepts P N A B c × ProductAccepts P N B⁻¹ A⁻¹ g × Alike P N (inverseT P N AB d) (productT P N B⁻¹ A⁻¹ g)
+      inverse-of-product′ = (product-ok, inverses-ok, inverses-alike)
+
     module _ (d e f g : List ℕ) (ok : ProductAccepts P N A B c)
-        (room-d : HasRoom P N d AB) (room-e : HasRoom P N e A) (room-f : HasRoom P N f B) (room-g : HasRoom P N g AB) where
+        (room-d : HasRoom N d AB) (room-e : HasRoom N e A) (room-f : HasRoom N f B) (room-g : HasRoom N g AB) where
       abbrev Aᵀ : Table
       Aᵀ = transposeT P N A e
 
@@ -122,28 +125,32 @@ module _ (P N : ℕ) where
       asked : GoodPair P N A B c
       asked = accepts P N A .product B c .0 ok
 
-      AB-turned : TransposeAccepts P N AB d
-      AB-turned = accepts P N AB .transpose d .1 (asked .0, product-good A B c ok, room-d)
+      transpose-AB : TransposeAccepts P N AB d
+      transpose-AB = accepts P N AB .transpose d .1 (asked .0, product-good A B c ok, room-d)
 
-      A-turned : TransposeAccepts P N A e
-      A-turned = accepts P N A .transpose e .1 (asked .0, asked .1, room-e)
+      transpose-A : TransposeAccepts P N A e
+      transpose-A = accepts P N A .transpose e .1 (asked .0, asked .1, room-e)
 
-      B-turned : TransposeAccepts P N B f
-      B-turned = accepts P N B .transpose f .1 (asked .0, asked .2, room-f)
+      transpose-B : TransposeAccepts P N B f
+      transpose-B = accepts P N B .transpose f .1 (asked .0, asked .2, room-f)
 
-      turned-ok : ProductAccepts P N Bᵀ Aᵀ g
-      turned-ok =
+      transposes-ok : ProductAccepts P N Bᵀ Aᵀ g
+      transposes-ok =
           let o = other-order (A .upper) (A .lower) (B .upper) (B .lower) g (asked .3 .1, asked .3 .0)
           (rw (width-swap (A .lower + B .lower) (A .upper + B .upper)) room-g) in
-          accepts P N Bᵀ .product Aᵀ g .1 (asked .0, transpose-good B f B-turned, transpose-good A e A-turned, o .0, o .1)
+          accepts P N Bᵀ .product Aᵀ g .1 (asked .0, transpose-good B f transpose-B, transpose-good A e transpose-A, o .0, o .1)
 
-      turned-alike : Alike P N (transposeT P N AB d) (productT P N Bᵀ Aᵀ g)
-      turned-alike i j hi hj =
-          agrees P N AB .transpose d AB-turned i j hi hj
+      transposes-alike : Alike P N (transposeT P N AB d) (productT P N Bᵀ Aᵀ g)
+      transposes-alike i j hi hj =
+          agrees P N AB .transpose d transpose-AB i j hi hj
           ∙ laws .product A B c ok j i hj hi
           ∙ transpose-times K N (matrixOf P N A) (matrixOf P N B) i j
-          ∙ sym (times-same K N _ _ _ _ (agrees P N B .transpose f B-turned) (agrees P N A .transpose e A-turned) i j hi hj)
-          ∙ sym (laws .product Bᵀ Aᵀ g turned-ok i j hi hj)
+          ∙ sym (times-same K N _ _ _ _ (agrees P N B .transpose f transpose-B) (agrees P N A .transpose e transpose-A) i j hi hj)
+          ∙ sym (laws .product Bᵀ Aᵀ g transposes-ok i j hi hj)
+
+      transpose-of-product′ : TransposeAccepts P N AB d × TransposeAccepts P N A e × TransposeAccepts P N B f × ProductAccepts P N Bᵀ Aᵀ g
+          × Alike P N (transposeT P N AB d) (productT P N Bᵀ Aᵀ g)
+      transpose-of-product′ = (transpose-AB, transpose-A, transpose-B, transposes-ok, transposes-alike)
 
     -- Solving for x with A gives y, with B for y gives z, with A B gives w.
     module _ (x v d v′ d′ v″ d″ : List ℕ) (ok-AB : SolveAccepts P N AB x v d) (ok-A : SolveAccepts P N A x v′ d′)
@@ -179,13 +186,17 @@ module _ (P N : ℕ) where
           word A x v d ok k h =
               val-small P (prime-pos P (accepts P N A .solve x v d .0 ok .0 .0)) _ (place-below P N _ (written-again P N A .solve x v d ok) k h)
 
-  -- the inverse's inverse is one on the left of it, A is one on the right
-  original-back : (A : Table) (d e : List ℕ) → InverseAccepts P N A d → InverseAccepts P N (inverseT P N A d) e → Alike P N (inverseT P N (inverseT P N A d) e) A
+      solve-through′ : ProductAccepts P N A B c × SameColumn N (solveAfter P N AB x v d) z
+      solve-through′ = (factors-ok, columns-same)
+
+  -- the inverse's inverse is a left inverse of A⁻¹, A is a right one
+  original-back : (A : Table) (d e : List ℕ) → InverseAccepts P N A d → InverseAccepts P N (inverseT P N A d) e
+      → Alike P N (inverseT P N (inverseT P N A d) e) A
   original-back A d e ok ok′ =
       let A⁻¹ = inverseT P N A d in
       one-inverse K N _ (matrixOf P N A⁻¹) _ (laws .inverse-left A⁻¹ e ok′) (laws .inverse-left A d ok)
 
-  -- The transposed table, left in d: it stands for the matrix of A's generators, transposed row by row.
+  -- The transposed table T, left in d: it stands for the matrix of A's generators, transposed row by row.
   module _ (A : Table) (d : List ℕ) (ok : TransposeAccepts P N A d) where
     abbrev T : Table
     T = transposeT P N A d
@@ -222,32 +233,23 @@ module _ (P N : ℕ) where
       (λ z. regular-none P N T prime (same-row ∙ none-regular P N A prime z)),
     )
 
-  -- Where A is good and the transposed table is long enough, an accepted call left it; so what the pivots' check answers is the same.
-  same-reply : (A : Table) (d : List ℕ) → GoodNumbers P N → GoodTable P N A → short (transposeAfter P N A d) (tableLength N (transposeT P N A d)) ≡ false
-      → atPivot (firstZero P N (transposeT P N A d)) ≡ atPivot (firstZero P N A)
-  same-reply A d n a long = ap atPivot (same-row A d (accepts P N A .transpose d .1 (n, a, turned-room A d .1 (ltb-false _ _ long))))
+  -- Where A is good and its transpose is long enough, the transpose was accepted; then the pivots' check answers the same of both.
+  transpose-left : (A : Table) (d : List ℕ) → GoodNumbers P N → GoodTable P N A → short (transposeAfter P N A d) (tableLength N (transposeT P N A d)) ≡ false
+      → TransposeAccepts P N A d
+  transpose-left A d n a long = accepts P N A .transpose d .1 (n, a, transpose-room A d .1 (ltb-false _ _ long))
 
   pub identities : Identities P N
   identities = record {
-    inverse-of-product = λ A B c d e f g o1 o2 o3 h.
-        (product-ok A B c d e f g o1 o2 o3 h, inverses-ok A B c d e f g o1 o2 o3 h, inverses-alike A B c d e f g o1 o2 o3 h);
+    inverse-of-product = inverse-of-product′;
     inverse-of-inverse = original-back;
-    transpose-of-product = λ A B c d e f g ok h1 h2 h3 h4. (
-      AB-turned A B c d e f g ok h1 h2 h3 h4,
-      A-turned A B c d e f g ok h1 h2 h3 h4,
-      B-turned A B c d e f g ok h1 h2 h3 h4,
-      turned-ok A B c d e f g ok h1 h2 h3 h4,
-      turned-alike A B c d e f g ok h1 h2 h3 h4,
-    );
+    transpose-of-product = transpose-of-product′;
     transpose-regular = same-regular;
     transpose-first-zero = same-row;
     transpose-solve = λ A d x v e x′ v′ e′ z z′.
-        solve-open P N (transposeT P N A d) x′ v′ e′ z′
-        ∙ same-reply A d (numbers P N (z 0) (z 1)) (good P N A (z 2) (z 3) (z 7)) (z′ 3)
-        ∙ sym (solve-open P N A x v e z);
+        let ok = transpose-left A d (numbers P N (z 0) (z 1)) (good P N A (z 2) (z 3) (z 7)) (z′ 3) in
+        (ok, solve-open P N (transposeT P N A d) x′ v′ e′ z′ ∙ ap atPivot (same-row A d ok) ∙ sym (solve-open P N A x v e z));
     transpose-inverse = λ A d e e′ z z′.
-        inverse-open P N (transposeT P N A d) e′ z′
-        ∙ same-reply A d (numbers P N (z 0) (z 1)) (good P N A (z 2) (z 3) (z 5)) (z′ 3)
-        ∙ sym (inverse-open P N A e z);
-    solve-through = λ A B c x v d v′ d′ v″ d″ o1 o2 o3. (factors-ok A B c x v d v′ d′ v″ d″ o1 o2 o3, columns-same A B c x v d v′ d′ v″ d″ o1 o2 o3);
+        let ok = transpose-left A d (numbers P N (z 0) (z 1)) (good P N A (z 2) (z 3) (z 5)) (z′ 3) in
+        (ok, inverse-open P N (transposeT P N A d) e′ z′ ∙ ap atPivot (same-row A d ok) ∙ sym (inverse-open P N A e z));
+    solve-through = solve-through′;
   }

@@ -1,5 +1,5 @@
 -- The lister: the text that it prints for the bytes that it reads, as bytes.
--- "singular K" speaks of the leading K by K corner, not of the matrix: the regular matrix with rows 0 1 and 1 0 prints "singular 1".
+-- "singular K" speaks of the leading K by K corner, not of the matrix: that with rows 0 1 and 1 0 has an inverse and prints "singular 1".
 use mathlib.Core.List.{List, [], _∷_, _++_}
 use Prim.Native.Nat.{ℕ, zero, suc, _+_, _*_, _/_, _%_}
 use Prim.Native.Char.{code}
