@@ -16,11 +16,12 @@ owe_printed() {
 # Compiles with the words given and runs.
 run_c_examples() {
     local program
-    for program in apply spline files; do
+    for program in apply spline identities files; do
         "${c99[@]}" "$@" "$examples/$program.c" "$lib/libresidues.a" -o "$build/$program"
     done
     owe_printed apply 0 "${within[@]}" "$build/apply"
     owe_printed spline 0 "${within[@]}" "$build/spline"
+    owe_printed identities 0 "${within[@]}" "$build/identities"
     files=("${within[@]}" "$build/files" "$build/transposed" "$build/inverse")
     owe_printed files 0 "${files[@]}" "$examples/M.rows"
     owe_printed files-written 0 od -A n -v -t u4 --endian=little "$build/transposed" "$build/inverse"

@@ -11,7 +11,9 @@ use crate::refusals::{LARGEST_ORDER, LARGEST_PRIME};
 use crate::tally::Tally;
 use crate::trial::{compare, ended, only_accepted};
 
+mod drawn;
 mod files;
+mod identities;
 mod inverses;
 mod singular;
 mod small;
@@ -23,10 +25,9 @@ pub struct Law {
     run: fn(&mut Laws) -> Result<(), String>,
 }
 
-pub const LAWS: [Law; 27] = [
+pub const LAWS: [Law; 34] = [
     Law { name: "groupings", times: 180, run: Laws::groupings },
     Law { name: "product_by_sum", times: 200, run: Laws::product_by_sum },
-    Law { name: "transposed_product", times: 200, run: Laws::transposed_product },
     Law { name: "multiples", times: 200, run: Laws::multiples },
     Law { name: "identity", times: 200, run: Laws::identity },
     Law { name: "apply_twice", times: 200, run: Laws::apply_twice },
@@ -35,10 +36,18 @@ pub const LAWS: [Law; 27] = [
     Law { name: "solve_and_apply_large", times: 24, run: Laws::solve_and_apply_large },
     Law { name: "large_words", times: 8, run: Laws::large_words },
     Law { name: "inverse_and_product", times: 200, run: Laws::inverse_and_product },
-    Law { name: "inverse_twice", times: 300, run: Laws::inverse_twice },
-    Law { name: "inverse_of_product", times: 200, run: Laws::inverse_of_product },
     Law { name: "inverse_transposed", times: 200, run: Laws::inverse_transposed },
     Law { name: "inverse_of_multiple", times: 200, run: Laws::inverse_of_multiple },
+    Law { name: "inverse_of_product", times: 2_100, run: Laws::inverse_of_product },
+    Law { name: "inverse_of_product_large", times: 35, run: Laws::inverse_of_product_large },
+    Law { name: "inverse_twice", times: 2_100, run: Laws::inverse_twice },
+    Law { name: "inverse_twice_large", times: 35, run: Laws::inverse_twice_large },
+    Law { name: "transposed_product", times: 2_100, run: Laws::transposed_product },
+    Law { name: "transposed_product_large", times: 35, run: Laws::transposed_product_large },
+    Law { name: "transposed_pivots", times: 2_100, run: Laws::transposed_pivots },
+    Law { name: "transposed_pivots_large", times: 35, run: Laws::transposed_pivots_large },
+    Law { name: "solve_through", times: 2_100, run: Laws::solve_through },
+    Law { name: "solve_through_large", times: 35, run: Laws::solve_through_large },
     Law { name: "singular_rows", times: 64, run: Laws::singular_rows },
     Law { name: "singular_rows_large", times: 8, run: Laws::singular_rows_large },
     Law { name: "small_matrices", times: small::PARTS, run: Laws::small_matrices },
@@ -137,15 +146,6 @@ impl Laws {
         let dense = b.matrix().plus(&c.matrix());
         same("A(B + C)", &[left, by_left], &a.matrix().times(&dense))?;
         same("(B + C)A", &[right, by_right], &dense.times(&a.matrix()))
-    }
-
-    /// AB transposed is B transposed times A transposed.
-    fn transposed_product(&mut self) -> Result<(), String> {
-        let (a, b) = self.draw_two(12);
-        let ab = self.accepted(&product::CALL, &a, &b)?;
-        let (a, b, turned) = (self.transposed(&a)?, self.transposed(&b)?, self.transposed(&ab)?);
-        let product = self.accepted(&product::CALL, &b, &a)?;
-        same("AB transposed", &[turned, product], &ab.matrix().transposed())
     }
 
     /// cA times B, and A times cB, is c times AB; cA + cB is c times A + B.

@@ -12,13 +12,6 @@ use crate::trial::ended;
 const ORDERS: [(u32, u32); 8] = [(1, 1), (8, 8), (0, 8), (8, 0), (0, 0), (2, 5), (8, 1), (1, 8)];
 
 impl Laws {
-    /// A table without zero pivots.
-    fn draw_regular(&mut self, p: u32, n: usize, r: u32, s: u32) -> Factor {
-        let mut table = self.draw(p, n, r, s);
-        cases::make_regular(p, table.shape, &mut table.words, &mut self.random);
-        table
-    }
-
     fn draw_one_regular(&mut self, largest_size: u32, largest_order: u32) -> Factor {
         let (p, n) = (cases::draw_prime(&mut self.random), self.between(1, largest_size));
         let (r, s) = (self.random.between(0, largest_order), self.random.between(0, largest_order));
@@ -76,46 +69,6 @@ impl Laws {
         let inverse = self.inverted(&a)?;
         let (right, left) = (self.accepted(&product::CALL, &a, &inverse)?, self.accepted(&product::CALL, &inverse, &a)?);
         same("A with its inverse", &[right, left], &Matrix::identity(a.p, a.shape.n))
-    }
-
-    /// The inverse of the inverse stands for the same matrix, where it is accepted: always in a table with one side only.
-    pub fn inverse_twice(&mut self) -> Result<(), String> {
-        let (mut p, n) = (cases::draw_prime(&mut self.random), self.between(1, 30));
-        let (mut r, mut s) = (self.random.between(0, 8), self.random.between(0, 8));
-        match self.number % 4 {
-            0 => r = 0,
-            1 => s = 0,
-            2 => p = LARGEST_PRIME,
-            _ => {}
-        }
-        let a = self.draw_regular(p, n, r, s);
-        let inverse = self.inverted(&a)?;
-        match self.inverse(&inverse)? {
-            Some(twice) => same("the inverse of the inverse", &[twice], &a.matrix()),
-            None if self.number % 4 < 2 => Err("inverse refuses the inverse of a table with one side only".into()),
-            None => Ok(()),
-        }
-    }
-
-    /// The inverse of AB, where it is accepted, is that of B times that of A: always where A is lower or B upper triangular.
-    pub fn inverse_of_product(&mut self) -> Result<(), String> {
-        let (mut p, n) = (cases::draw_prime(&mut self.random), self.between(1, 14));
-        let (mut rs, mut ss) = (self.split(LARGEST_ORDER, 2), self.split(LARGEST_ORDER, 2));
-        match self.number % 4 {
-            0 => ss[0] = 0,
-            1 => rs[1] = 0,
-            2 => p = LARGEST_PRIME,
-            _ => {}
-        }
-        let (a, b) = (self.draw_regular(p, n, rs[0], ss[0]), self.draw_regular(p, n, rs[1], ss[1]));
-        let ab = self.accepted(&product::CALL, &a, &b)?;
-        let (inverse_a, inverse_b) = (self.inverted(&a)?, self.inverted(&b)?);
-        let product = self.accepted(&product::CALL, &inverse_b, &inverse_a)?;
-        match self.inverse(&ab)? {
-            Some(inverse) => same("the inverse of AB", &[inverse], &product.matrix()),
-            None if self.number % 4 < 2 => Err("inverse refuses a product without zero pivots".into()),
-            None => Ok(()),
-        }
     }
 
     /// The inverse of A transposed is that of A, transposed.

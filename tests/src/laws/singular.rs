@@ -7,7 +7,6 @@ use crate::dense::Matrix;
 use crate::eliminated::Eliminated;
 use crate::layout::Kind;
 use crate::refusals::{Reply, LARGEST_PRIME};
-use crate::swept::choose_pivots;
 
 impl Laws {
     /// Every row of a table of each size to 64.
@@ -32,15 +31,7 @@ impl Laws {
 
     /// The table with a zero pivot at row k, which the dense program confirms: solve and inverse both name the row.
     fn singular_at(&mut self, drawn: &Factor, matrix: &Matrix, k: usize) -> Result<(), String> {
-        let (p, n) = (drawn.p, drawn.shape.n);
-        let mut table = drawn.clone();
-        let random = &mut self.random;
-        let pivot = |row: usize, m: u32| match m {
-            _ if row == k => 0,
-            0 => random.between(1, p - 1),
-            _ => m,
-        };
-        choose_pivots(p, table.shape, &mut table.words, pivot);
+        let (p, n, table) = (drawn.p, drawn.shape.n, self.with_zero_pivot(drawn, k));
         let mut entries = matrix.entries.clone();
         for row in 1..=n {
             entries[(row - 1) * (n + 1)] = table.words[table.shape.places(Kind::D, row).start];
