@@ -16,7 +16,7 @@ typedef struct {
     uint32_t words[WORDS];
 } table;
 
-static void owe_accepted(const char *call, uint64_t reply)
+static void must_accept(const char *call, uint64_t reply)
 {
     if (!accepted(call, reply)) {
         exit(1);
@@ -26,21 +26,21 @@ static void owe_accepted(const char *call, uint64_t reply)
 static table product(table a, table b)
 {
     table result = {a.n, a.r + b.r, a.s + b.s, {0}};
-    owe_accepted("product", residues_product(P, a.n, a.r, a.s, b.r, b.s, a.words, WORDS, b.words, WORDS, result.words, WORDS));
+    must_accept("product", residues_product(P, a.n, a.r, a.s, b.r, b.s, a.words, WORDS, b.words, WORDS, result.words, WORDS));
     return result;
 }
 
 static table transpose(table t)
 {
     table result = {t.n, t.s, t.r, {0}};
-    owe_accepted("transpose", residues_transpose(P, t.n, t.r, t.s, t.words, WORDS, result.words, WORDS));
+    must_accept("transpose", residues_transpose(P, t.n, t.r, t.s, t.words, WORDS, result.words, WORDS));
     return result;
 }
 
 static table inverse(table t)
 {
     table result = {t.n, t.r, t.s, {0}};
-    owe_accepted("inverse", residues_inverse(P, t.n, t.r, t.s, t.words, WORDS, result.words, WORDS));
+    must_accept("inverse", residues_inverse(P, t.n, t.r, t.s, t.words, WORDS, result.words, WORDS));
     return result;
 }
 
@@ -54,7 +54,7 @@ static uint64_t answer(table t)
 static void solve(table t, const uint32_t *column, uint32_t *result)
 {
     uint32_t work[N * 2];
-    owe_accepted("solve", residues_solve(P, t.n, t.r, t.s, t.words, WORDS, column, N, work, N * 2, result, N));
+    must_accept("solve", residues_solve(P, t.n, t.r, t.s, t.words, WORDS, column, N, work, N * 2, result, N));
 }
 
 /* Prints two sides beside each other; whether they agree. */
@@ -75,8 +75,8 @@ static int print_sides(const char *title, uint32_t rows, uint32_t width, const u
 static int print_matrices(const char *title, table a, table b)
 {
     uint32_t left[N * N], right[N * N];
-    owe_accepted("matrix", residues_matrix(P, a.n, a.r, a.s, a.words, WORDS, left, N * N));
-    owe_accepted("matrix", residues_matrix(P, b.n, b.r, b.s, b.words, WORDS, right, N * N));
+    must_accept("matrix", residues_matrix(P, a.n, a.r, a.s, a.words, WORDS, left, N * N));
+    must_accept("matrix", residues_matrix(P, b.n, b.r, b.s, b.words, WORDS, right, N * N));
     return print_sides(title, a.n, a.n, left, right);
 }
 
@@ -104,17 +104,25 @@ static int refused(const char *call, uint64_t reply)
 
 int main(void)
 {
-    const table a = {N, 1, 1, {1, 9, 9, 2, 1, 9, 9, 3, 1, 2, 1, 2, 3, 1, 5, 3, 9, 9, 9, 9, 4}};
-    const table b = {N, 0, 1, {2, 1, 9, 9, 3, 1, 0, 1, 4, 9, 9, 1}};
-    const table c = {2, 1, 1, {1, 9, 9, 1, 1, 9, 9, 0, 1, 9, 9, 9, 9, 1}};
-    const table ab = product(a, b), back = product(inverse(b), inverse(a)), reverse = product(transpose(b), transpose(a));
+    /* rows of d, p, a, q, g, b, h; each 9 is a word that is never used */
+    const table a = {N, 1, 1, {1, 9, 9, 2, 1, 9, 9,
+                               3, 1, 2, 1, 2, 3, 1,
+                               5, 3, 9, 9, 9, 9, 4}};
+    /* rows of d, g, b, h */
+    const table b = {N, 0, 1, {2, 1, 9, 9,
+                               3, 1, 0, 1,
+                               4, 9, 9, 1}};
+    const table c = {2, 1, 1, {1, 9, 9, 1, 1, 9, 9,
+                               0, 1, 9, 9, 9, 9, 1}};
+    const table ab = product(a, b);
+    const table inverses = product(inverse(b), inverse(a)), transposes = product(transpose(b), transpose(a));
     const uint32_t column[N] = {4, 4, 5};
     uint32_t at_once[N], first[N], then[N];
     int fine = 1;
     print_matrices("A, which is file M's matrix, and B, modulo 7", a, b);
-    fine &= said(print_matrices("\n1. the inverse of A B, and B's inverse times A's", inverse(ab), back));
+    fine &= said(print_matrices("\n1. the inverse of A B, and B's inverse times A's", inverse(ab), inverses));
     fine &= said(print_matrices("2. A, and the inverse of its inverse", a, inverse(inverse(a))));
-    fine &= said(print_matrices("3. the transpose of A B, and B's transpose times A's", transpose(ab), reverse));
+    fine &= said(print_matrices("3. the transpose of A B, and B's transpose times A's", transpose(ab), transposes));
     fine &= said(print_answers("4. inverse's answers on A B and on its transpose: number, buffer, row", ab));
     fine &= said(print_answers("   the same on B A and on its transpose", product(b, a)));
     solve(ab, column, at_once);

@@ -125,7 +125,7 @@ uint64_t residues_solve(uint32_t p, uint32_t n, uint32_t r, uint32_t s,
                         uint32_t *work, size_t work_len, uint32_t *result, size_t result_len);
 
 /* The table of the inverse matrix, of the same orders, to the result: as many words as the table has. Reads the table.
- * Refuses 1, 2, 3, 4, 5, 7, and 7 as above: also some that have an inverse, and some tables that this call has written. */
+ * Refuses 1, 2, 3, 4, 5, 7, and 7 as above: also some matrices that have an inverse, and some tables that this call has written. */
 uint64_t residues_inverse(uint32_t p, uint32_t n, uint32_t r, uint32_t s,
                           const uint32_t *table, size_t table_len, uint32_t *result, size_t result_len);
 

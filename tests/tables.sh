@@ -82,7 +82,7 @@ owe_planted_wrong() {
 }
 
 # Faults planted in right answers: a word off by one, the same residue by a larger word, too few words, too many, a refusal where
-# none is due, the wrong row beside one, none where one is due (also where the matrix is regular), factors exchanged, other orders.
+# none is due, the wrong row beside one, none where one is due (also where the matrix has an inverse), factors exchanged, other orders.
 plant_faults() {
     local m="$tables/M.txt" singular="$tables/two_right.txt" answer
     for answer in "1 2 4" "8 2 3" "1 2" "1 2 3 0" "refused 7 1 3"; do

@@ -304,14 +304,10 @@ impl Laws {
         self.call(&solve::CALL, &[table], 0, column)?.ok_or_else(|| "solve refuses a table without zero pivots".into())
     }
 
-    /// The inverse's table, where it is accepted.
-    fn inverse(&mut self, table: &Factor) -> Result<Option<Factor>, String> {
-        let words = self.call(&inverse::CALL, &[table], 0, &[])?;
-        Ok(words.map(|words| Factor { words, ..*table }))
-    }
-
     fn inverted(&mut self, table: &Factor) -> Result<Factor, String> {
-        self.inverse(table)?.ok_or_else(|| "inverse refuses a table without zero pivots".into())
+        let words = self.call(&inverse::CALL, &[table], 0, &[])?;
+        let words = words.ok_or("inverse refuses a table without zero pivots")?;
+        Ok(Factor { words, ..*table })
     }
 }
 

@@ -143,7 +143,7 @@ const BAD_LAST: &str = "bad word first in row N";
 const ZERO_FIRST: &str = "zero pivot in row 1, N above 1";
 const ZERO_LAST: &str = "zero pivot in row N, N above 1";
 const ZERO_BETWEEN: &str = "zero pivot first in a row between";
-const ZERO_REGULAR: &str = "zero pivot in a regular matrix";
+const ZERO_INVERTIBLE: &str = "zero pivot in a matrix that has an inverse";
 const SHARED: &str = "a buffer is the first table's memory";
 
 /// Whether a table, the first or the second, has an idle word in row k that is no residue.
@@ -194,7 +194,7 @@ impl Tally {
             self.count(call, row.map_or(ZERO_BETWEEN, |(_, name)| name));
         }
         if reply.number == 7 && case.n <= 5 && case.table().matrix().rank() == case.n as usize {
-            self.count(call, ZERO_REGULAR);
+            self.count(call, ZERO_INVERTIBLE);
         }
         if reply.number == 0 && case.buffers.iter().any(|buffer| buffer.shared) {
             self.count(call, SHARED);
@@ -263,7 +263,7 @@ fn traits_of(call: &Call) -> Vec<&'static str> {
         names.extend(REFUSED_FILE.map(|(name, _)| name));
     }
     if call.pivots {
-        names.extend([ZERO_FIRST, ZERO_LAST, ZERO_BETWEEN, ZERO_REGULAR]);
+        names.extend([ZERO_FIRST, ZERO_LAST, ZERO_BETWEEN, ZERO_INVERTIBLE]);
     }
     if call.buffers.iter().any(|&(number, _)| (2..=3).contains(&number)) {
         names.push(SHARED);

@@ -49,11 +49,11 @@ module _ (K : Ring) where
   identity-other (suc i) zero n = refl
   identity-other (suc i) (suc j) n = identity-other i j (λ e. n (ap suc e))
 
-  pub times-identity : (N : ℕ) (A : Matrix K) → Same K N (timesM K N A (identity K)) A
+  times-identity : (N : ℕ) (A : Matrix K) → Same K N (timesM K N A (identity K)) A
   times-identity N A i j hi hj = sum-single K N j _ hj (λ k h n. ap (λ t. A i k ⊗ t) (identity-other k j n) ∙ mul-zero K (A i k))
       ∙ ap (λ t. A i j ⊗ t) (identity-same j) ∙ mul-one K (A i j)
 
-  pub identity-times : (N : ℕ) (A : Matrix K) → Same K N (timesM K N (identity K) A) A
+  identity-times : (N : ℕ) (A : Matrix K) → Same K N (timesM K N (identity K) A) A
   identity-times N A i j hi hj = sum-single K N i _ hi (λ k h n. ap (λ t. t ⊗ A k j) (identity-other i k (λ e. n (sym e))) ∙ zero-mul K (A k j))
       ∙ ap (λ t. t ⊗ A i j) (identity-same i) ∙ K .one-mul (A i j)
 

@@ -1,4 +1,5 @@
 -- A leading corner is singular exactly from the first zero pivot on: no corner before it is, and the one that ends at its row is.
+-- The transposed table's least singular corner is the table's.
 use mathlib.Core.Logic.{_≢_, _↔_, _⊎_, inl, inr}
 use mathlib.Core.Path.{_≡_, sym, ap, _∙_, fun-ext}
 use Prim.Native.Nat.{ℕ, zero, suc, _<_, _≤_}

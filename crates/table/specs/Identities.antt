@@ -1,6 +1,6 @@
 -- The identities of inverses, products and transposes that authors quote: request M-111, as statements about the calls that Calls.antt defines.
--- Every lent buffer is a letter of its own, and a table on the way is what its call left there: that this call accepts is a condition or part of the conclusion.
--- The proofs are put together in IdentitiesProof.antt.
+-- Every lent buffer is a letter of its own, and a table on the way is what its call left there: that this call accepts is a condition or part of
+-- the conclusion. The proofs are put together in IdentitiesProof.antt.
 use mathlib.Core.Logic.{_↔_}
 use mathlib.Core.Path.{_≡_}
 use mathlib.Core.List.{List}

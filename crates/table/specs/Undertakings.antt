@@ -299,7 +299,7 @@ PermutedReadsSame = (π : ℕ → ℕ) (f f′ d : List ℕ) → Permuted π f f
 -- 3. "A generator table obeys the algebra of the matrix it stands for. Whatever tables and columns are handed in, wherever the calls accept:"
 module _ (P N : ℕ) where
   -- the matrix that a table stands for
-  abbrev pub mat : Table → Matrix (residues P)
+  abbrev mat : Table → Matrix (residues P)
   mat A = matrixOf P N A
 
   -- two tables stand for the same matrix

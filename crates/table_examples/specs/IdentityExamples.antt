@@ -1,5 +1,5 @@
 -- The identities of M-111 on small tables, computed: where they hold, that each of their conditions is needed, and that similar identities are false.
-use mathlib.Core.List.{List, [], _∷_, _++_}
+use mathlib.Core.List.{List, [], _∷_}
 use mathlib.Core.Path.{_≡_, refl}
 use Prim.Native.Nat.{ℕ}
 use Rattle.algebra.specs.Sums.{fold, join}
@@ -165,7 +165,8 @@ computed :
     × (transposeReplies S [] x12 [] room ≡ ((4 ∷ 3 ∷ 0 ∷ 0 ∷ []) ∷ (7 ∷ 1 ∷ 2 ∷ 0 ∷ []) ∷ (4 ∷ 5 ∷ 0 ∷ 0 ∷ []) ∷ (7 ∷ 1 ∷ 2 ∷ 0 ∷ []) ∷ []))
     × (transposeReplies S x12 [] room [] ≡ ((7 ∷ 1 ∷ 2 ∷ 0 ∷ []) ∷ (4 ∷ 3 ∷ 0 ∷ 0 ∷ []) ∷ (7 ∷ 1 ∷ 2 ∷ 0 ∷ []) ∷ (4 ∷ 5 ∷ 0 ∷ 0 ∷ []) ∷ []))
     -- The transpose may need a longer work buffer
-    × (numbersOf (solveReply 7 2 (transposeT 7 2 D (lent 8)) x12 [] (lent 2)) ≡ (4 ∷ 4 ∷ 0 ∷ 0 ∷ [])) × (numbersOf (solveReply 7 2 D x12 [] (lent 2)) ≡ (0 ∷ 0 ∷ 0 ∷ 0 ∷ []))
+    × (numbersOf (solveReply 7 2 (transposeT 7 2 D (lent 8)) x12 [] (lent 2)) ≡ (4 ∷ 4 ∷ 0 ∷ 0 ∷ []))
+    × (numbersOf (solveReply 7 2 D x12 [] (lent 2)) ≡ (0 ∷ 0 ∷ 0 ∷ 0 ∷ []))
     -- Solving through a product: it holds; without the solve of A B, of A, of B
     × (solveThrough E F (lent 2) ≡ ((0 ∷ 0 ∷ 0 ∷ []) ∷ (5 ∷ 2 ∷ 99 ∷ []) ∷ (5 ∷ 2 ∷ 99 ∷ []) ∷ []))
     × (solveThrough E G (lent 2) ≡ ((7 ∷ 0 ∷ 0 ∷ []) ∷ (88 ∷ 88 ∷ 99 ∷ []) ∷ (1 ∷ 1 ∷ 99 ∷ []) ∷ []))
@@ -176,4 +177,38 @@ computed :
     × (transposesNotReversed E F ≡ ((0 ∷ 0 ∷ 0 ∷ 0 ∷ 0 ∷ []) ∷ (1 ∷ 1 ∷ 5 ∷ 2 ∷ []) ∷ (3 ∷ 3 ∷ 1 ∷ 0 ∷ []) ∷ []))
     × (solveOtherWay E F ≡ ((0 ∷ 0 ∷ 0 ∷ []) ∷ (5 ∷ 2 ∷ 99 ∷ []) ∷ (3 ∷ 6 ∷ 99 ∷ []) ∷ []))
 unfolding fold join entryOf below above productsG Xs Ys inversesG pivots fs vs ys zs solvedG ahead behind residues res val of add mul neg inv inverseOf inverseBy res-dec isPrime divided some firstOf rowGens gens matrixOf rowWords tableWords badRow firstBad firstBadPlace matrixW transposeW inverseW pivotW firstZero solveW productW answer transposeReply solveReply inverseReply productReply
-computed = (refl, refl, refl, refl, refl, refl, refl, refl, refl, refl, refl, refl, refl, refl, refl, refl, refl, refl, refl, refl, refl, refl, refl, refl, refl, refl, refl, refl, refl, refl, refl, refl, refl)
+computed = (
+  refl,
+  refl,
+  refl,
+  refl,
+  refl,
+  refl,
+  refl,
+  refl,
+  refl,
+  refl,
+  refl,
+  refl,
+  refl,
+  refl,
+  refl,
+  refl,
+  refl,
+  refl,
+  refl,
+  refl,
+  refl,
+  refl,
+  refl,
+  refl,
+  refl,
+  refl,
+  refl,
+  refl,
+  refl,
+  refl,
+  refl,
+  refl,
+  refl,
+)

@@ -20,7 +20,7 @@ impl Examples<'_> {
         self.solving_with_m()?;
         self.pivots_of_m()?;
         self.inverse_of_m_as_table()?;
-        self.regular_and_refused()?;
+        self.refused_with_an_inverse()?;
         self.inverse_refused()?;
         self.solving_one_row()?;
         self.solving_a_diagonal()?;
@@ -79,8 +79,8 @@ impl Examples<'_> {
         self.solves(solve_case(7, 3, (1, 1), &M_INVERSE, &[1, 2, 3], &[8; 3], &[8; 3]), &[5, 3, 0], &[4, 4, 5])
     }
 
-    /// Example 4: M times M is regular, as M is, but its leading 1 by 1 corner is 0.
-    fn regular_and_refused(&mut self) -> Result<(), String> {
+    /// Example 4: M times M has an inverse, as M has, but its leading 1 by 1 corner is 0.
+    fn refused_with_an_inverse(&mut self) -> Result<(), String> {
         self.zero_pivot(7, 3, (2, 2), &M_SQUARE.concat(), 1)?;
         let column = [4, 4, 5];
         self.refuses(&solve::CALL, solve_case(7, 3, (2, 2), &M_SQUARE.concat(), &column, &[8; 6], &[8; 3]), 7, 1, 1)
