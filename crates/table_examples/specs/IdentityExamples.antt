@@ -176,7 +176,9 @@ computed :
     × (inversesNotReversed E F ≡ ((0 ∷ 0 ∷ 0 ∷ 0 ∷ []) ∷ (4 ∷ 4 ∷ 5 ∷ 2 ∷ []) ∷ (0 ∷ 5 ∷ 1 ∷ 6 ∷ []) ∷ []))
     × (transposesNotReversed E F ≡ ((0 ∷ 0 ∷ 0 ∷ 0 ∷ 0 ∷ []) ∷ (1 ∷ 1 ∷ 5 ∷ 2 ∷ []) ∷ (3 ∷ 3 ∷ 1 ∷ 0 ∷ []) ∷ []))
     × (solveOtherWay E F ≡ ((0 ∷ 0 ∷ 0 ∷ []) ∷ (5 ∷ 2 ∷ 99 ∷ []) ∷ (3 ∷ 6 ∷ 99 ∷ []) ∷ []))
-unfolding fold join entryOf below above productsG Xs Ys inversesG pivots fs vs ys zs solvedG ahead behind residues res val of add mul neg inv inverseOf inverseBy res-dec isPrime divided some firstOf rowGens gens matrixOf rowWords tableWords badRow firstBad firstBadPlace matrixW transposeW inverseW pivotW firstZero solveW productW answer transposeReply solveReply inverseReply productReply
+unfolding fold join entryOf below above productsG Xs Ys inversesG pivots fs vs ys zs solvedG ahead behind residues res val of add mul neg inv
+    inverseOf inverseBy res-dec isPrime divided some firstOf rowGens gens matrixOf rowWords tableWords badRow firstBad firstBadPlace matrixW
+    transposeW inverseW pivotW firstZero solveW productW answer transposeReply solveReply inverseReply productReply
 computed = (
   refl,
   refl,
