@@ -16,7 +16,7 @@ use Rattle.lists.specs.Lists.{tabulate, rowsOf, some, firstOf}
 pub clash : {X : Type 0} → true ≡ false → X
 clash e = absurd (let z : _≡_ {A = ℕ} 0 1 = cc in omega arith)
 
-pub length-tabulate : (n : ℕ) (f : ℕ → ℕ) → length (tabulate n f) ≡ n
+pub length-tabulate {ℓ} : {X : Type ℓ} (n : ℕ) (f : ℕ → X) → length (tabulate n f) ≡ n
 length-tabulate zero f = refl
 length-tabulate (suc n) f = ap suc (length-tabulate n (λ i. f (suc i)))
 
@@ -25,8 +25,14 @@ getD-tabulate zero f i h = absurd (not-suc-le-zero h)
 getD-tabulate (suc n) f zero h = refl
 getD-tabulate (suc n) f (suc i) h = getD-tabulate n (λ i. f (suc i)) i (le-of-suc-le-suc h)
 
+-- of any element, with any one that stands for what lies past the end
+pub getD-front {ℓ} : {X : Type ℓ} (n : ℕ) (f : ℕ → X) (l : List X) (z : X) (i : ℕ) → i < n → getD (tabulate n f ++ l) i z ≡ f i
+getD-front zero f l z i h = absurd (not-suc-le-zero h)
+getD-front (suc n) f l z zero h = refl
+getD-front (suc n) f l z (suc i) h = getD-front n (λ i. f (suc i)) l z i (le-of-suc-le-suc h)
+
 pub getD-here : (n : ℕ) (f : ℕ → ℕ) (l : List ℕ) (i : ℕ) → i < n → getD (tabulate n f ++ l) i 0 ≡ f i
-getD-here n f l i h = List·getD-append (tabulate n f) l 0 i (omega (arith, length-tabulate n f)) ∙ getD-tabulate n f i h
+getD-here n f l = getD-front n f l 0
 
 pub getD-skip : (n : ℕ) (f : ℕ → ℕ) (l : List ℕ) (i : ℕ) → getD (tabulate n f ++ l) (n + i) 0 ≡ getD l i 0
 getD-skip n f l i = ap (λ (m : ℕ). getD (tabulate n f ++ l) (m + i) 0) (sym (length-tabulate n f)) ∙ getD-append-add (tabulate n f) l i 0
@@ -128,7 +134,7 @@ pub search-end : (n : ℕ) (f : ℕ → Bool) (k : ℕ) → n ≤ k → firstOf 
 unfolding firstOf
 search-end n f k h = let a : n - k ≡ 0 = omega arith in ap (λ (m : ℕ). firstOf m f k) a
 
-pub tabulate-same : (n : ℕ) (f g : ℕ → ℕ) → ((i : ℕ) → i < n → f i ≡ g i) → tabulate n f ≡ tabulate n g
+pub tabulate-same {ℓ} : {X : Type ℓ} (n : ℕ) (f g : ℕ → X) → ((i : ℕ) → i < n → f i ≡ g i) → tabulate n f ≡ tabulate n g
 tabulate-same zero f g e = refl
 tabulate-same (suc n) f g e = ap₂ _∷_ (e 0 (omega arith)) (tabulate-same n (λ i. f (suc i)) (λ i. g (suc i)) (λ i h. e (suc i) (omega arith)))
 

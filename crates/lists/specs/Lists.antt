@@ -5,7 +5,7 @@ use Prim.Native.Nat.{ℕ, zero, suc, _+_}
 use lib.ListN.{length, take, drop}
 
 -- f 0, f 1, .., f (n - 1)
-abbrev pub tabulate : ℕ → (ℕ → ℕ) → List ℕ
+abbrev pub tabulate {ℓ} : {X : Type ℓ} → ℕ → (ℕ → X) → List X
 tabulate zero f = []
 tabulate (suc n) f = f 0 ∷ tabulate n (λ i. f (suc i))
 
@@ -25,7 +25,7 @@ firstOf zero f at = 0
 firstOf (suc n) f at = elim (f at) [ true ↦ suc at | false ↦ firstOf n f (suc at) ]
 
 -- a buffer that held d, with ys written at its start
-abbrev pub over : List ℕ → List ℕ → List ℕ
+abbrev pub over {ℓ} : {X : Type ℓ} → List X → List X → List X
 over ys d = ys ++ drop (length ys) d
 
 -- a buffer that held d, with f 0, .., f (n - 1) written from `at` on

@@ -28,6 +28,10 @@ pub last : {v w : Reply} → w ≡ v → w ≡ answer [] v
 unfolding answer
 last q = q
 
+-- the first checks pass, and the others decide
+pub clear-pass : (cs ds : List Check) (v : Reply) {w : Reply} → NoFault cs → w ≡ answer ds v → w ≡ answer (cs ++ ds) v
+clear-pass cs ds v z q = q ∙ sym (answer-append cs ds v ∙ open-checks cs (answer ds v) z)
+
 -- y is the answer of a call's first checks: it refuses, whatever comes after them; or they pass, and the others decide
 module _ (cs : List Check) (y : Reply) (e : y ≡ answer cs (accept 0)) where
   pub first-stop : y .number ≢ 0 → (ds : List Check) (v : Reply) → y ≡ answer (cs ++ ds) v
@@ -43,7 +47,7 @@ module _ (cs : List Check) (y : Reply) (e : y ≡ answer cs (accept 0)) where
     first-accept = e ∙ open-checks cs (accept 0) first-clear
 
     pub first-pass : (ds : List Check) (v : Reply) {w : Reply} → w ≡ answer ds v → w ≡ answer (cs ++ ds) v
-    first-pass ds v q = q ∙ sym (answer-append cs ds v ∙ open-checks cs (answer ds v) first-clear)
+    first-pass ds v = clear-pass cs ds v first-clear
 
 -- y is the answer of the first three checks
 abbrev pub Numbers : (P N : ℕ) → Table → Reply → Type 0
@@ -83,10 +87,10 @@ table-short t n w W e h = lt-ltb (length t) (n * W) (rw e at h)
 pub table-long : (t : List ℕ) (n w W : ℕ) → w ≡ W → n * w ≤ length t → short t (n * W) ≡ false
 table-long t n w W e h = le-ltb (length t) (n * W) (rw e at h)
 
-pub room-short : (d : List ℕ) (room k n : ℕ) → length d ≡ room → k ≡ n → room < k → short d n ≡ true
+pub room-short {ℓ} : {X : Type ℓ} (d : List X) (room k n : ℕ) → length d ≡ room → k ≡ n → room < k → short d n ≡ true
 room-short d room k n e q h = lt-ltb (length d) n (omega arith)
 
-pub room-long : (d : List ℕ) (room k n : ℕ) → length d ≡ room → k ≡ n → k ≤ room → short d n ≡ false
+pub room-long {ℓ} : {X : Type ℓ} (d : List X) (room k n : ℕ) → length d ≡ room → k ≡ n → k ≤ room → short d n ≡ false
 room-long d room k n e q h = le-ltb (length d) n (omega arith)
 
 pub row-found : (v m : ℕ) → v ≡ m → 0 < v → ltb 0 m ≡ true

@@ -2,6 +2,7 @@
 ghost use mathlib.Core.Path.{_≡_};
 ghost use Rattle.table.specs.Words.{table as tab};
 ghost use Rattle.table.specs.Replies.{packed};
+ghost use Rattle.fraction_calls.specs.FractionCall.{fractionsReply, numeratorsAfter, denominatorsAfter};
 ghost use Rattle.table.specs.Calls.{entryReply, matrixReply, matrixAfter, applyReply, applyAfter, applyTransposedAfter, transposeReply, transposeAfter, multipleReply, multipleAfter, sumReply, sumAfter, productReply, productAfter, solveReply, solveAfter, workAfter, inverseReply, inverseAfter, readReply, readAfter, writeReply, writeAfter};
 
 #[no_mangle]
@@ -187,4 +188,21 @@ pub extern "C" fn residues_write_file(
     ensures { λ v. ⌜ now (file .exit) ≡ writeAfter p n (tab r s (now (table .entry))) (now (file .entry)) ⌝ }
 {
     checks::pack(rowfile::write(p, n, r, s, table, file))
+}
+
+#[no_mangle]
+pub extern "C" fn residues_fractions(
+    p: u32,
+    q: u32,
+    n: u32,
+    first: &[u32],
+    second: &[u32],
+    numerators: &mut [i32],
+    denominators: &mut [u32],
+) -> u64
+    ensures { λ v. ⌜ v ≡ packed (fractionsReply p q n (now (first .entry)) (now (second .entry)) (now (numerators .entry)) (now (denominators .entry))) ⌝ }
+    ensures { λ v. ⌜ now (numerators .exit) ≡ numeratorsAfter p q n (now (first .entry)) (now (second .entry)) (now (numerators .entry)) (now (denominators .entry)) ⌝ }
+    ensures { λ v. ⌜ now (denominators .exit) ≡ denominatorsAfter p q n (now (first .entry)) (now (second .entry)) (now (numerators .entry)) (now (denominators .entry)) ⌝ }
+{
+    checks::pack(fraction_calls::fractions(p, q, n, first, second, numerators, denominators))
 }

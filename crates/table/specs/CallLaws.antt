@@ -10,7 +10,7 @@ use lib.Dec.{leb, eqb, ltb}
 use native.Mathlib.Decide.{ℕ-discrete}
 use lib.Seq.{drop-at}
 use lib.ListN.{length, drop, length-append, length-drop}
-use borrow.Author.Tests.{eq-eqb, ne-eqb, lt-ltb}
+use borrow.Author.Tests.{eq-eqb, ne-eqb, eqb-false, lt-ltb}
 use Rattle.algebra.specs.Generators.{pick}
 use Rattle.field.specs.Prime.{Prime}
 use Rattle.field.specs.PrimeTest.{isPrime, is-prime}
@@ -43,10 +43,25 @@ refused-by (c ∷ cs) v ok e = go (c .cause) refl e (λ e. refused-by cs v ok e)
         before n h zero l = q
         before n h (suc m) l = h m (le-of-suc-le-suc l)
 
--- the refusals of a list are refusals, which computes for each call's list
+-- no refusal of a list has the number m, which computes for each call's list
+abbrev pub lacks : ℕ → List Check → Bool
+lacks m [] = true
+lacks m (c ∷ cs) = not (eqb (c .refusal .number) m) && lacks m cs
+
+pub other-number : (m : ℕ) (cs : List Check) (v : Reply) → lacks m cs ≡ true → v .number ≢ m → answer cs v .number ≢ m
+unfolding answer
+other-number m [] v r h = h
+other-number m (c ∷ cs) v r h = go (c .cause) (eqb (c .refusal .number) m) refl r (λ r. other-number m cs v r h)
+  where
+    go : (b z : Bool) → eqb (c .refusal .number) m ≡ z → (not z && lacks m cs) ≡ true → (lacks m cs ≡ true → answer cs v .number ≢ m)
+        → pick b (c .refusal) (answer cs v) .number ≢ m
+    go b true w r ih = clash (sym r)
+    go true false w r ih = eqb-false (c .refusal .number) m w
+    go false false w r ih = ih r
+
+-- the refusals of a list are refusals
 abbrev pub refusing : List Check → Bool
-refusing [] = true
-refusing (c ∷ cs) = not (eqb (c .refusal .number) 0) && refusing cs
+refusing = lacks 0
 
 pub passed : (cs : List Check) (v : Reply) → refusing cs ≡ true → Accepted (answer cs v) → NoFault cs
 unfolding answer
@@ -69,7 +84,7 @@ abbrev pub AllClear : List Check → Type 0
 AllClear [] = Unit {0}
 AllClear (c ∷ cs) = (c .cause ≡ false) × AllClear cs
 
-all-clear : (cs : List Check) → AllClear cs → NoFault cs
+pub all-clear : (cs : List Check) → AllClear cs → NoFault cs
 all-clear [] z n = refl
 all-clear (c ∷ cs) z zero = z .0
 all-clear (c ∷ cs) z (suc n) = all-clear cs (z .1) n
@@ -100,20 +115,20 @@ pub good-prime : (limit P : ℕ) → badPrime limit P ≡ false → Prime P
 good-prime limit P e = is-prime P (both-hold (isPrime P) (leb P limit) e .0)
 
 -- the buffers
-pub kept : (y : Reply) (ys d : List ℕ) → y .number ≢ 0 → after y ys d ≡ d
+pub kept {ℓ} : {X : Type ℓ} (y : Reply) (ys d : List X) → y .number ≢ 0 → after y ys d ≡ d
 kept y ys d n = rw (ne-eqb (y .number) 0 n)
 
-pub after-is : (y : Reply) (ys d : List ℕ) → Accepted y → after y ys d ≡ ys ++ drop (length ys) d
+pub after-is {ℓ} : {X : Type ℓ} (y : Reply) (ys d : List X) → Accepted y → after y ys d ≡ ys ++ drop (length ys) d
 after-is y ys d e = rw (eq-eqb (y .number) 0 e)
 
-pub surplus : (y : Reply) (n : ℕ) (ys d : List ℕ) → (Accepted y → length ys ≡ n) → drop n (after y ys d) ≡ drop n d
+pub surplus {ℓ} : {X : Type ℓ} (y : Reply) (n : ℕ) (ys d : List X) → (Accepted y → length ys ≡ n) → drop n (after y ys d) ≡ drop n d
 surplus y n ys d h = go (ℕ-discrete (y .number) 0)
   where
     go : Dec (y .number ≡ 0) → drop n (after y ys d) ≡ drop n d
     go (yes e) = ap (drop n) (after-is y ys d e) ∙ drop-at ys (drop (length ys) d) n (h e) ∙ ap (λ (m : ℕ). drop m d) (h e)
     go (no e) = ap (drop n) (kept y ys d e)
 
-pub after-length : (y : Reply) (ys d : List ℕ) → (Accepted y → length ys ≤ length d) → length (after y ys d) ≡ length d
+pub after-length {ℓ} : {X : Type ℓ} (y : Reply) (ys d : List X) → (Accepted y → length ys ≤ length d) → length (after y ys d) ≡ length d
 after-length y ys d h = go (eqb (y .number) 0) refl
   where
     go : (b : Bool) → eqb (y .number) 0 ≡ b → length (pick b (ys ++ drop (length ys) d) d) ≡ length d

@@ -17,7 +17,7 @@ abbrev pub tableLength : ℕ → Table → ℕ
 tableLength N A = N * width (A .lower) (A .upper)
 
 -- buffer b, which holds t, is shorter than n words
-abbrev pub checkShort : ℕ → List ℕ → ℕ → Check
+abbrev pub checkShort {ℓ} : {X : Type ℓ} → ℕ → List X → ℕ → Check
 checkShort b t n = check (short t n) (refuse 4 b 0)
 
 module _ (P N : ℕ) where

@@ -34,7 +34,7 @@ parts y f = record {
   value = omega (arith, f .0, f .1, f .2, f .3);
 }
 
-fits-answer : (cs : List Check) (v : Reply) → ((n : ℕ) → FirstFault cs n → Fits (refusalAt cs n)) → (NoFault cs → Fits v) → Fits (answer cs v)
+pub fits-answer : (cs : List Check) (v : Reply) → ((n : ℕ) → FirstFault cs n → Fits (refusalAt cs n)) → (NoFault cs → Fits v) → Fits (answer cs v)
 unfolding answer
 fits-answer [] v h g = g (λ n. refl)
 fits-answer (c ∷ cs) v h g = go (c .cause) refl (λ h g. fits-answer cs v h g)
@@ -51,26 +51,26 @@ fits-answer (c ∷ cs) v h g = go (c .cause) refl (λ h g. fits-answer cs v h g)
     go true q ih = h 0 (q, λ m l. absurd (omega arith))
     go false q ih = ih (λ n z. h (suc n) (z .0, before q n (z .1))) (λ z. g (all q z))
 
-plain : (n b k : ℕ) → n < 256 → b < 256 → k < 65536 → Fits (refuse n b k)
+pub plain : (n b k : ℕ) → n < 256 → b < 256 → k < 65536 → Fits (refuse n b k)
 plain n b k hn hb hk = (hn, hb, hk, omega arith)
 
-record AllFit (cs : List Check) : Type 0 where
-  at : (n : ℕ) → Fits (refusalAt cs n)
+pub record AllFit (cs : List Check) : Type 0 where
+  pub at : (n : ℕ) → Fits (refusalAt cs n)
 
-fit-nil : AllFit []
+pub fit-nil : AllFit []
 fit-nil = record { at = λ n. (omega arith, omega arith, omega arith, omega arith) }
 
-fit-cons : (c : Check) (cs : List Check) → Fits (c .refusal) → AllFit cs → AllFit (c ∷ cs)
+pub fit-cons : (c : Check) (cs : List Check) → Fits (c .refusal) → AllFit cs → AllFit (c ∷ cs)
 fit-cons c cs h t = record { at = go }
   where
     go : (n : ℕ) → Fits (refusalAt (c ∷ cs) n)
     go zero = h
     go (suc n) = t .at n
 
-zero-fits : Fits (accept 0)
+pub zero-fits : Fits (accept 0)
 zero-fits = (omega arith, omega arith, omega arith, omega arith)
 
-size-is : (limit N : ℕ) → badSize limit N ≡ false → N ≤ limit
+pub size-is : (limit N : ℕ) → badSize limit N ≡ false → N ≤ limit
 size-is limit N e = leb-true N limit (both-hold (leb 1 N) (leb N limit) e .1)
 
 module _ (P N : ℕ) (A : Table) where

@@ -85,9 +85,9 @@ badOrder limit r s = not (leb r limit && leb s limit)
 abbrev pub badPlace : (N i : ℕ) → Bool
 badPlace N i = not (leb 1 i && leb i N)
 
-abbrev pub short : List ℕ → ℕ → Bool
+abbrev pub short {ℓ} : {X : Type ℓ} → List X → ℕ → Bool
 short d n = ltb (length d) n
 
 -- what a buffer that held d holds after a call that writes ys
-abbrev pub after : Reply → List ℕ → List ℕ → List ℕ
+abbrev pub after {ℓ} : {X : Type ℓ} → Reply → List X → List X → List X
 after y ys d = pick (eqb (y .number) 0) (over ys d) d

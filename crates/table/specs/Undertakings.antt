@@ -129,7 +129,7 @@ pub record Refused : Type 0 where
 
 -- "a refusal leaves each lent buffer untouched", and "words past N·w are neither read nor written; the same goes for the surplus of every buffer":
 -- a buffer that held d holds e after the reply y of a call that writes n words
-abbrev pub Keeps : (y : Reply) (n : ℕ) (d e : List ℕ) → Type 0
+abbrev pub Keeps : {X : Type 0} (y : Reply) (n : ℕ) (d e : List X) → Type 0
 Keeps y n d e = (y .number ≢ 0 → e ≡ d) × (drop n e ≡ drop n d)
 
 pub record Untouched (P N : ℕ) (A : Table) : Type 0 where

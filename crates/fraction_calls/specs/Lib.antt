@@ -1,0 +1,5 @@
+pub mod FractionCall
+pub mod FractionCallLaws
+pub mod FractionPromises
+pub mod FractionPromisesProof
+pub mod FractionExamples
