@@ -1,4 +1,6 @@
-/* FLINT's dense calls for the benchmark: a case holds the matrices a and b of a call and its result x, in FLINT's own form. */
+/* FLINT's calls for the benchmark: a dense case holds the matrices a and b of a call and its result x, in FLINT's own form. */
+#include <flint/fmpq.h>
+#include <flint/fmpz.h>
 #include <flint/nmod_mat.h>
 #include <stdint.h>
 #include <stdlib.h>
@@ -71,4 +73,37 @@ int dense_solve(struct dense *dense)
 int dense_inverse(struct dense *dense)
 {
     return nmod_mat_inv(dense->x, dense->a);
+}
+
+/* The fractions of n pairs of residues, first under p and second under q; 0 where a place has none. */
+int fractions_find(uint32_t p, uint32_t q, uint32_t n, const uint32_t *first, const uint32_t *second, int32_t *numerators,
+                   uint32_t *denominators)
+{
+    int found = 1;
+    fmpz_t modulus, product, bound, residue, joined;
+    fmpq_t fraction;
+    fmpz_init_set_ui(modulus, p);
+    fmpz_init(product);
+    fmpz_init(bound);
+    fmpz_init(residue);
+    fmpz_init(joined);
+    fmpq_init(fraction);
+    fmpz_mul_ui(product, modulus, q);
+    fmpz_sub_ui(bound, product, 1);
+    fmpz_fdiv_q_2exp(bound, bound, 1);
+    fmpz_sqrt(bound, bound);
+    for (uint32_t k = 0; k < n && found; k++) {
+        fmpz_set_ui(residue, first[k]);
+        fmpz_CRT_ui(joined, residue, modulus, second[k], q, 0);
+        found = fmpq_reconstruct_fmpz_2(fraction, joined, product, bound, bound);
+        numerators[k] = (int32_t) fmpz_get_si(fmpq_numref(fraction));
+        denominators[k] = (uint32_t) fmpz_get_ui(fmpq_denref(fraction));
+    }
+    fmpz_clear(modulus);
+    fmpz_clear(product);
+    fmpz_clear(bound);
+    fmpz_clear(residue);
+    fmpz_clear(joined);
+    fmpq_clear(fraction);
+    return found;
 }

@@ -3,6 +3,7 @@
 #define REFUSAL_H
 
 #include <stdio.h>
+#include <string.h>
 
 #include "residues.h"
 
@@ -21,16 +22,23 @@ static inline int accepted(const char *call, uint64_t reply)
         "i or j is not 1 to n",
         "the file is under 20 bytes, or of the wrong length",
         "the file's chain is wrong after this row",
+        "p1 and p2 are the same prime",
+        "two residues have no fraction within the bound",
     };
     static const char *const buffers[] = {
         "no buffer", "the table", "the second table", "the column", "work", "the result", "the file",
     };
+    /* Those of fractions, which has no third. */
+    static const char *const fraction_buffers[] = {
+        "no buffer", "the first residues", "the second residues", "", "the numerators", "the denominators",
+    };
+    const char *const *named = strcmp(call, "fractions") == 0 ? fraction_buffers : buffers;
     const uint32_t number = residues_number(reply);
     if (number == RESIDUES_OK) {
         return 1;
     }
     fflush(stdout);
-    fprintf(stderr, "%s: refused %u: %s (%s, row %u)\n", call, number, causes[number], buffers[residues_buffer(reply)],
+    fprintf(stderr, "%s: refused %u: %s (%s, row %u)\n", call, number, causes[number], named[residues_buffer(reply)],
             residues_row(reply));
     return 0;
 }

@@ -3,10 +3,10 @@
 #include "residues.h"
 
 const char *const call_names[CALLS] = {"entry", "matrix", "apply", "apply_transpose", "transpose", "multiple",
-                                       "sum", "product", "solve", "inverse", "read_file", "write_file"};
+                                       "sum", "product", "solve", "inverse", "read_file", "write_file", "fractions"};
 
 /* t table, 2 second table, c column, w work, r result, f file. */
-static const char *const buffers_of[CALLS] = {"t", "tr", "tcr", "tcr", "tr", "tr", "t2r", "t2r", "tcwr", "tr", "rf", "tf"};
+static const char *const buffers_of[CALLS] = {"t", "tr", "tcr", "tcr", "tr", "tr", "t2r", "t2r", "tcwr", "tr", "rf", "tf", "t2wr"};
 
 int uses(int call, int buffer)
 {
@@ -21,10 +21,12 @@ int is_written(int call, int buffer)
     return uses(call, buffer) && (buffer == WORK || buffer == RESULT || (buffer == FILE_BYTES && call == WRITE_FILE));
 }
 
-/* Every call gives 0 to 5. */
+/* Every call gives 0 to 5, but fractions have no orders. */
 int refuses(int call, int number)
 {
     switch (number) {
+    case BAD_ORDER:
+        return call != FRACTIONS;
     case BAD_ORDER_SUM:
         return call == SUM || call == PRODUCT;
     case ZERO_PIVOT:
@@ -34,6 +36,9 @@ int refuses(int call, int number)
     case BAD_LENGTH:
     case BAD_CHAIN:
         return call == READ_FILE;
+    case EQUAL_PRIMES:
+    case NO_FRACTION:
+        return call == FRACTIONS;
     default:
         return 1;
     }
@@ -77,7 +82,7 @@ size_t needed_units(const trial *t, int buffer)
     case COLUMN:
         return t->first.n;
     case WORK:
-        return (size_t)t->first.n * t->first.s;
+        return (size_t)t->first.n * (t->call == FRACTIONS ? 1 : t->first.s);
     case RESULT:
         return needed_result(t);
     default:
@@ -114,7 +119,9 @@ uint64_t run_call(const trial *t, void *const *lent)
         return residues_inverse(NUMBERS, LENT(TABLE), LENT(RESULT));
     case READ_FILE:
         return residues_read_file(LENT(FILE_BYTES), LENT(RESULT));
-    default:
+    case WRITE_FILE:
         return residues_write_file(NUMBERS, LENT(TABLE), LENT(FILE_BYTES));
+    default:
+        return residues_fractions(t->first.p, t->second.p, t->first.n, LENT(TABLE), LENT(SECOND), LENT(WORK), LENT(RESULT));
     }
 }

@@ -34,9 +34,10 @@ static void set_up(void)
 
 static void note(const trial *t, int at_end)
 {
-    snprintf(doing, sizeof doing, "%s, p %u n %u r %u s %u r2 %u s2 %u i %u j %u c %u, counts %zu %zu %zu %zu %zu %zu, at the %s",
-             call_names[t->call], t->first.p, t->first.n, t->first.r, t->first.s, t->second.r, t->second.s, t->i, t->j, t->c,
-             t->count[TABLE], t->count[SECOND], t->count[COLUMN], t->count[WORK], t->count[RESULT], t->count[FILE_BYTES],
+    snprintf(doing, sizeof doing,
+             "%s, p %u n %u r %u s %u p2 %u r2 %u s2 %u i %u j %u c %u, counts %zu %zu %zu %zu %zu %zu, at the %s",
+             call_names[t->call], t->first.p, t->first.n, t->first.r, t->first.s, t->second.p, t->second.r, t->second.s, t->i, t->j,
+             t->c, t->count[TABLE], t->count[SECOND], t->count[COLUMN], t->count[WORK], t->count[RESULT], t->count[FILE_BYTES],
              at_end ? "end" : "beginning");
 }
 
@@ -129,7 +130,7 @@ void check_input(const uint8_t *data, size_t size, uint8_t *seen)
 void print_tally(void)
 {
     int call, number;
-    printf("%-16s accepted, then refusals 1 to 10\n", "call");
+    printf("%-16s accepted, then refusals 1 to 12\n", "call");
     for (call = 0; call < CALLS; call++) {
         printf("%-16s", call_names[call]);
         for (number = 0; number < REPLIES; number++)

@@ -1,10 +1,10 @@
-/* Classes of inputs that the fuzzer is led to, though they may run the same code: the first cause of a refusal and another,
- * what a reply names, surplus, sizes and orders. They lead the fuzzer and judge nothing. */
+/* Classes of inputs that the fuzzer is led to, though they may run the same code: the first cause of a refusal, alone or with
+ * another, what a reply names, surplus, sizes and orders, fractions at their bound. They lead the fuzzer and judge nothing. */
 #include "fuzz.h"
 
 /* Causes, told apart by buffer, in an order that is every call's. */
-enum { UNDER_20, PRIME, SIZE, FIRST_ORDER, SECOND_ORDER, PLACE, ORDER_SUM, LENGTH, SHORT, CHAIN = SHORT + BUFFERS, FILE_WORD,
-       FACTOR, WORD, PIVOT = WORD + 3, CAUSES };
+enum { UNDER_20, PRIME, SECOND_PRIME, EQUAL, SIZE, FIRST_ORDER, SECOND_ORDER, PLACE, ORDER_SUM, LENGTH, SHORT,
+       CHAIN = SHORT + BUFFERS, FILE_WORD, FACTOR, WORD, PIVOT = WORD + 3, FRACTION, CAUSES };
 
 static uint8_t *counters;
 
@@ -40,17 +40,20 @@ static uint32_t causes_of_numbers(const trial *t, shape of)
            add_if(t->call == ENTRY && (t->i < 1 || t->i > of.n || t->j < 1 || t->j > of.n), PLACE);
 }
 
-/* Of a buffer that is lent for numbers within limits: too short, or with a bad word. */
+/* Of a buffer that is lent for numbers within limits: too short, or with a bad word in a row before the first table's. */
 static uint32_t causes_of_buffer(const trial *t, int buffer)
 {
-    const table in = table_in(t, buffer);
+    const table in = table_in(t, buffer), one = table_in(t, TABLE);
+    uint32_t row, first;
     if (!uses(t->call, buffer))
         return 0;
     if (t->count[buffer] < needed_units(t, buffer))
         return add_if(1, SHORT + buffer);
     if (buffer > COLUMN)
         return 0;
-    return add_if((buffer == COLUMN ? bad_column_row(t) : bad_row(&in)) != 0, WORD + buffer);
+    row = buffer == COLUMN ? bad_column_row(t) : bad_row(&in);
+    first = buffer == TABLE ? 0 : bad_row(&one);
+    return add_if(row != 0 && (first == 0 || row < first), WORD + buffer);
 }
 
 static uint32_t causes_of_file(const trial *t)
@@ -71,12 +74,33 @@ static uint32_t causes_of_file(const trial *t)
     return causes | add_if(follow(of, file, numbers) <= of.n, CHAIN) | add_if(file_word(file, 6) >= of.p, FILE_WORD);
 }
 
+/* A place without a fraction counts where no word up to it is bad. */
+static uint32_t causes_of_fractions(const trial *t)
+{
+    const table one = table_in(t, TABLE), two = table_in(t, SECOND);
+    uint32_t causes = causes_of_numbers(t, t->first), place, first, second;
+    int buffer;
+    causes |= add_if(!is_prime(two.of.p), SECOND_PRIME) | add_if(one.of.p == two.of.p, EQUAL);
+    if ((causes & add_if(1, SIZE)) != 0)
+        return causes;
+    for (buffer = 0; buffer < BUFFERS; buffer++)
+        causes |= causes_of_buffer(t, buffer);
+    if ((causes & (add_if(1, PRIME) | add_if(1, SECOND_PRIME) | add_if(1, EQUAL))) != 0)
+        return causes;
+    place = place_without(t);
+    first = bad_row(&one);
+    second = bad_row(&two);
+    return causes | add_if(place > 0 && (first == 0 || place < first) && (second == 0 || place < second), FRACTION);
+}
+
 static uint32_t all_causes(const trial *t)
 {
     uint32_t causes;
     int buffer;
     if (t->call == READ_FILE)
         return causes_of_file(t);
+    if (t->call == FRACTIONS)
+        return causes_of_fractions(t);
     causes = causes_of_numbers(t, t->first);
     if ((causes & ~(add_if(1, PRIME) | add_if(1, PLACE) | add_if(1, ORDER_SUM))) != 0)
         return causes;
@@ -146,22 +170,70 @@ static void mark_accepted(const trial *t, const answer *owed, unsigned start)
     }
 }
 
+/* 0, 1, between, the bound, one more, larger. */
+static unsigned kind_of_part(int64_t part, int64_t bound)
+{
+    return part < 2 && part < bound ? (unsigned)part : part < bound ? 2 : part <= bound + 1 ? 3 + (unsigned)(part - bound) : 5;
+}
+
+/* Whether the primes are small, or one may divide a denominator, or neither; which is the larger. */
+static unsigned kind_of_primes(uint32_t p1, uint32_t p2)
+{
+    const uint32_t bound = bound_of(p1, p2);
+    return (bound <= DENSE_BOUND ? 0 : p1 <= bound || p2 <= bound ? 2 : 4) + (p1 > p2);
+}
+
+/* The fractions of an accepted call, or the shortest vector at the place that is refused. */
+static void mark_fractions(const trial *t, const answer *owed)
+{
+    const unsigned limits[5] = {2, 2, 6, 6, 6}, accepted = (owed->reply & 255) == ACCEPTED;
+    const uint32_t row = (uint32_t)(owed->reply >> 16 & 65535), bound = bound_of(t->first.p, t->second.p);
+    uint32_t k;
+    for (k = accepted ? 1 : row; k <= (accepted ? t->first.n : row); k++) {
+        const fraction f = shortest_at(t, k);
+        const unsigned kinds[5] = {accepted, f.n < 0, kind_of_part(f.n < 0 ? -f.n : f.n, bound), kind_of_part(f.d, bound),
+                                   kind_of_primes(t->first.p, t->second.p)};
+        mark(CLASSES - FRACTION_CLASSES, kinds, limits, 5);
+    }
+}
+
+/* Whether a buffer lacks one unit; of a row none, the first, the second, the last, one whose number takes two bytes, another. */
+static unsigned kind_of_row(const trial *t, uint64_t reply)
+{
+    const uint32_t row = (uint32_t)(reply >> 16 & 65535);
+    const int buffer = (int)(reply >> 8 & 255) - 1;
+    if ((reply & 255) == SHORT_BUFFER)
+        return t->count[buffer] + 1 == needed_units(t, buffer);
+    return row < 3 ? row : row == t->first.n ? 3 : row > 255 ? 4 : 5;
+}
+
+/* A prime, below 2, another number within the limit, above it, above it without a small divisor. */
+static unsigned kind_of_number(uint32_t p)
+{
+    return is_prime(p) ? 0 : p < 2 ? 1 : p <= LARGEST_PRIME ? 2 : p % 2 == 0 || p % 3 == 0 || p % 5 == 0 ? 3 : 4;
+}
+
 void mark_classes(const trial *t, const answer *owed, uint8_t *seen)
 {
     const unsigned number = (unsigned)(owed->reply & 255), buffer = (unsigned)(owed->reply >> 8 & 255);
-    const unsigned told[4] = {(unsigned)t->call, number, buffer, (unsigned)(owed->reply >> 16 & 65535)};
-    const unsigned told_limits[4] = {CALLS, REPLIES, BUFFERS + 1, 4}, pair_limits[3] = {CALLS, CAUSES, CAUSES};
+    const unsigned told[4] = {(unsigned)t->call, number, buffer, kind_of_row(t, owed->reply)};
+    const unsigned primes[3] = {(unsigned)t->call, kind_of_number(t->first.p), kind_of_number(t->second.p)};
+    const unsigned told_limits[4] = {CALLS, REPLIES, BUFFERS + 1, 6}, prime_limits[3] = {CALLS, 5, 5};
+    const unsigned pair_limits[3] = {CALLS, CAUSES, CAUSES};
     const uint32_t causes = all_causes(t);
     unsigned start, first = 0, other;
     counters = seen;
     start = mark(0, told, told_limits, 4);
+    start = mark(start, primes, prime_limits, 3);
     while (first < CAUSES && (causes >> first & 1) == 0)
         first++;
-    for (other = first + 1; other < CAUSES; other++) {
+    for (other = first; other < CAUSES; other++) {
         const unsigned pair[3] = {(unsigned)t->call, first, other};
-        if ((causes >> other & 1) != 0)
+        if (other == first ? causes >> first == 1 : (causes >> other & 1) != 0)
             mark(start, pair, pair_limits, 3);
     }
     if (number == ACCEPTED)
         mark_accepted(t, owed, start + CALLS * CAUSES * CAUSES);
+    if (t->call == FRACTIONS && (number == ACCEPTED || number == NO_FRACTION))
+        mark_fractions(t, owed);
 }

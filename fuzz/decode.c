@@ -93,12 +93,13 @@ static size_t count_or_not(reader *in, size_t exact)
 
 static void decode_numbers(reader *in, trial *t)
 {
-    const int two = t->call == SUM || t->call == PRODUCT;
+    const int two = t->call == SUM || t->call == PRODUCT, none = t->call == FRACTIONS;
     t->first.p = prime_or_not(in);
     t->first.n = size_or_not(in);
-    t->first.r = order_or_not(in, two ? 4 : 8);
-    t->first.s = order_or_not(in, two ? 4 : 8);
+    t->first.r = none ? 0 : order_or_not(in, two ? 4 : 8);
+    t->first.s = none ? 0 : order_or_not(in, two ? 4 : 8);
     t->second = t->first;
+    t->second.p = none ? prime_or_not(in) : t->first.p;
     t->second.r = two ? order_or_not(in, 4) : 0;
     t->second.s = two ? order_or_not(in, 4) : 0;
     t->i = t->call == ENTRY ? place_or_not(in, t->first.n) : 0;
@@ -131,6 +132,8 @@ static void decode_words(reader *in, trial *t)
         aim_pivots(in, one, t->before[TABLE]);
     if (uses(t->call, SECOND))
         fill_table(in, two, t->before[SECOND]);
+    if (t->call == FRACTIONS)
+        aim_fractions(in, one, two, t->before[TABLE], t->before[SECOND]);
     if (uses(t->call, COLUMN))
         fill_words(in, one.p, t->before[COLUMN], one.n);
 }

@@ -96,6 +96,46 @@ void aim_pivots(reader *in, shape of, uint32_t *words)
     }
 }
 
+/* Up to the most, below 16, or at the most or next to it; a word decides. */
+static uint32_t part_of(uint32_t word, uint32_t how, uint32_t most)
+{
+    const uint32_t parts[4] = {word % (most + 1), word % (most < 16 ? most + 1 : 16), most - word % 2, most + 1 - word % 3};
+    return parts[how % 4];
+}
+
+/* Two residues are made into those of a fraction whose parts are within the bound, but for how 3, which may be one above it. */
+static void put_residues(uint32_t how, uint32_t p1, uint32_t p2, uint32_t *x, uint32_t *y)
+{
+    const uint32_t bound = bound_of(p1, p2), drawn = scramble(*x + p1 * *y);
+    const uint32_t size = part_of(drawn / 2, how / 4, bound);
+    uint32_t d = part_of(scramble(drawn), how, bound);
+    while (d > 1 && (d % p1 == 0 || d % p2 == 0))
+        d--;
+    d = d == 0 ? 1 : d;
+    *x = times(p1, size % p1, over(p1, d % p1));
+    *y = times(p2, size % p2, over(p2, d % p2));
+    if (drawn % 2 == 1) {
+        *x = minus(p1, 0, *x);
+        *y = minus(p2, 0, *y);
+    }
+}
+
+/* Sets residues so that each place has a fraction, then changes one of a chosen place; some columns are left as they are. */
+void aim_fractions(reader *in, shape one, shape two, uint32_t *first, uint32_t *second)
+{
+    const uint32_t how = next_byte(in), byte = next_byte(in), place = byte * 5 % one.n;
+    uint32_t k;
+    if (!is_prime(one.p) || !is_prime(two.p) || one.p == two.p)
+        return;
+    for (k = 0; k < one.n && how < 192; k++)
+        if (first[k] < one.p && second[k] < two.p)
+            put_residues(how, one.p, two.p, &first[k], &second[k]);
+    if (byte >= 208)
+        second[place] = plus(two.p, second[place], 1);
+    else if (byte >= 160)
+        first[place] = plus(one.p, first[place], 1);
+}
+
 /* The numbers of the records of rows 1 to n: in order, backwards, or shuffled. */
 static void draw_chain(reader *in, uint32_t n, uint32_t *numbers)
 {

@@ -9,19 +9,22 @@
 #define LARGEST_SIZE 1024u
 #define LARGEST_ORDER 8u
 
-/* Up to this size everything is compared with dense matrices. */
+/* Up to this size everything is compared with dense matrices; up to this bound, too, every pair is tried as a fraction. */
 #define DENSE_SIZE 16u
+#define DENSE_BOUND 128u
 
 /* The most bytes that a buffer is lent: a matrix of 1,024 rows and some words more. */
 #define MOST_BYTES ((size_t)1 << 22 | 4096u)
 
 /* The numbers of a refusal. */
 enum { ACCEPTED, BAD_PRIME, BAD_SIZE, BAD_ORDER, SHORT_BUFFER, BAD_WORD, BAD_ORDER_SUM, ZERO_PIVOT, BAD_PLACE, BAD_LENGTH,
-       BAD_CHAIN, REPLIES };
+       BAD_CHAIN, EQUAL_PRIMES, NO_FRACTION, REPLIES };
 
-enum { ENTRY, MATRIX, APPLY, APPLY_TRANSPOSE, TRANSPOSE, MULTIPLE, SUM, PRODUCT, SOLVE, INVERSE, READ_FILE, WRITE_FILE, CALLS };
+enum { ENTRY, MATRIX, APPLY, APPLY_TRANSPOSE, TRANSPOSE, MULTIPLE, SUM, PRODUCT, SOLVE, INVERSE, READ_FILE, WRITE_FILE, FRACTIONS,
+       CALLS };
 
-/* The buffers; a reply names each by one number more. */
+/* The buffers; a reply names each by one number more. Of fractions both columns of residues are tables of orders 0, each with its
+ * own prime, numerators are the work and denominators the result. */
 enum { TABLE, SECOND, COLUMN, WORK, RESULT, FILE_BYTES, BUFFERS };
 
 /* The generators of a row in their order. */
@@ -56,6 +59,11 @@ typedef struct {
     void *after[BUFFERS];
 } answer;
 
+/* A numerator and a denominator. */
+typedef struct {
+    int64_t n, d;
+} fraction;
+
 /* decode.c, fill.c */
 typedef struct {
     const uint8_t *at, *end;
@@ -67,6 +75,7 @@ void decode(trial *t, const uint8_t *data, size_t size);
 void fill_table(reader *in, shape of, uint32_t *words);
 void fill_words(reader *in, uint32_t p, uint32_t *words, size_t count);
 void aim_pivots(reader *in, shape of, uint32_t *words);
+void aim_fractions(reader *in, shape one, shape two, uint32_t *first, uint32_t *second);
 void fill_spots(reader *in, shape of, uint32_t count_of_spots, uint32_t *words, size_t count);
 void fill_file(reader *in, trial *t);
 shape within_limits(shape of);
@@ -111,6 +120,12 @@ typedef struct {
 void meet_pivot(const table *t, uint32_t k, sweep *w);
 void leave_row(const table *t, uint32_t k, sweep *w);
 
+/* fractions.c */
+uint32_t bound_of(uint32_t p1, uint32_t p2);
+fraction shortest_at(const trial *t, uint32_t k);
+uint32_t place_without(const trial *t);
+void put_fractions(const trial *t, int32_t *numerators, uint32_t *denominators);
+
 /* refusals.c, rowfile.c, answers.c, judge.c */
 uint64_t packed(uint32_t number, uint32_t buffer, uint32_t row, uint32_t value);
 int is_prime(uint32_t p);
@@ -129,8 +144,9 @@ uint32_t zero_pivot(const trial *t);
 void work_out(const trial *t, answer *owed);
 int judge(const trial *t, const uint32_t *result);
 
-/* classes.c: a byte of seen for each class. */
-#define CLASSES 10260u
+/* classes.c: a byte of seen for each class; those of fractions are the last. */
+#define CLASSES 17153u
+#define FRACTION_CLASSES 864u
 void mark_classes(const trial *t, const answer *owed, uint8_t *seen);
 
 /* lent.c, check.c */

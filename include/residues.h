@@ -1,4 +1,4 @@
-/* residues: linear algebra modulo a prime on matrices given by generators.
+/* residues: linear algebra modulo a prime on matrices given by generators, and fractions from residues under two primes.
  *
  * A table of N rows, lower order r and upper order s has N * w words, w = 1 + 2r + r*r + 2s + s*s, row by row; a row holds
  * d, p, a, q, g, b, h, blocks row by row. Never used, and of any value: p, a, b, h of row 1 and a, q, g, b of row N.
@@ -20,10 +20,10 @@
 #include <stdint.h>
 
 /* The version, MAJOR.MINOR.PATCH. MAJOR is in the shared library's name. */
-#define RESIDUES_VERSION "1.0.2"
+#define RESIDUES_VERSION "1.1.0"
 #define RESIDUES_VERSION_MAJOR 1
-#define RESIDUES_VERSION_MINOR 0
-#define RESIDUES_VERSION_PATCH 2
+#define RESIDUES_VERSION_MINOR 1
+#define RESIDUES_VERSION_PATCH 0
 
 #ifdef __cplusplus
 extern "C" {
@@ -32,16 +32,18 @@ extern "C" {
 /* The numbers of a reply. */
 enum {
     RESIDUES_OK = 0,             /* accepted */
-    RESIDUES_BAD_PRIME = 1,      /* p is no prime from 2 to 2147483647 */
+    RESIDUES_BAD_PRIME = 1,      /* p, or p1 or p2, is no prime from 2 to 2147483647 */
     RESIDUES_BAD_SIZE = 2,       /* n is not 1 to 1024 */
     RESIDUES_BAD_ORDER = 3,      /* an order above 8; beside it the table's buffer, or the file's */
     RESIDUES_SHORT_BUFFER = 4,   /* a buffer shorter than needed; beside it the lowest such buffer */
-    RESIDUES_BAD_WORD = 5,       /* a word that is read is not below p; beside it the lowest such buffer, its first such row; 0, 0: c */
+    RESIDUES_BAD_WORD = 5,       /* a word is not below its prime; beside it the lowest such buffer and its first such row; 0, 0: c */
     RESIDUES_BAD_ORDER_SUM = 6,  /* orders that add up to more than 8 */
     RESIDUES_ZERO_PIVOT = 7,     /* a leading corner is singular; beside it 1 and the least such row */
     RESIDUES_BAD_PLACE = 8,      /* i or j is not 1 to n */
     RESIDUES_BAD_LENGTH = 9,     /* a file under 20 bytes, or of the wrong length; beside it 6 */
-    RESIDUES_BAD_CHAIN = 10      /* a file's chain is wrong; beside it 6 and the rows read so far */
+    RESIDUES_BAD_CHAIN = 10,     /* a file's chain is wrong; beside it 6 and the rows read so far */
+    RESIDUES_EQUAL_PRIMES = 11,  /* p1 and p2 are the same prime */
+    RESIDUES_NO_FRACTION = 12    /* two residues have no fraction within the bound; beside it 0 and the first such place */
 };
 
 /* The buffers that a reply names. */
@@ -53,6 +55,14 @@ enum {
     RESIDUES_WORK = 4,
     RESIDUES_RESULT = 5,
     RESIDUES_FILE = 6
+};
+
+/* Those of residues_fractions. */
+enum {
+    RESIDUES_FIRST_RESIDUES = 1,
+    RESIDUES_SECOND_RESIDUES = 2,
+    RESIDUES_NUMERATORS = 4,
+    RESIDUES_DENOMINATORS = 5
 };
 
 /* A reply taken apart. */
@@ -139,6 +149,18 @@ uint64_t residues_read_file(const uint8_t *file, size_t file_len, uint32_t *resu
  * the rows, idle words 0. Reads the table. Refuses 1, 2, 3, 4, 5. */
 uint64_t residues_write_file(uint32_t p, uint32_t n, uint32_t r, uint32_t s,
                              const uint32_t *table, size_t table_len, uint8_t *file, size_t file_len);
+
+/* The fractions of n pairs of residues, first under p1 and second under p2, two different primes: n numerators and n denominators.
+ * With M = p1 * p2 and B the largest whole number with 2 * B * B below M, a numerator is -B to B, its denominator 1 to B and
+ * divisible by neither prime, they have no common divisor above 1, and under each prime the numerator is congruent to denominator
+ * times residue. There is at most one such fraction; that of 0 and 0 is 0 / 1. The two largest primes, 2147483647 and
+ * 2147483629, give the largest B, 1518500242. Reads first and second, which may be the same buffer. Refuses 1, 11, 2, 4, 5, 12:
+ * 1 where p1 or p2 is no prime from 2 to 2147483647; 4 names 1 (first), 2 (second), 4 (numerators) or 5 (denominators); 5 names 1,
+ * a word of first not below p1, or 2, one of second not below p2, and the first such place; 12 where some place has no such
+ * fraction, beside it 0 and the first such place, from 1. */
+uint64_t residues_fractions(uint32_t p1, uint32_t p2, uint32_t n,
+                            const uint32_t *first, size_t first_len, const uint32_t *second, size_t second_len,
+                            int32_t *numerators, size_t numerators_len, uint32_t *denominators, size_t denominators_len);
 
 #ifdef __cplusplus
 }

@@ -1,4 +1,5 @@
-"""Calls the library residues from Python: exact linear algebra modulo a prime on matrices given by generators.
+"""Calls the library residues from Python: exact linear algebra modulo a prime on matrices given by generators, and fractions from
+residues under two primes.
 
 One function a call, by the names of the header residues.h. Numbers are whole numbers from 0 to 4294967295; tables and columns are
 sequences of such numbers, files are bytes. A table of n rows, lower order r and upper order s has n * row_words(r, s) words; a row
@@ -15,9 +16,10 @@ import ctypes
 import operator
 import os
 import struct
+from fractions import Fraction
 
 # The library's version, which `set-version` puts here. The shared library's name has its first number.
-__version__ = "1.0.2"
+__version__ = "1.1.0"
 
 HOUSE_PRIME = 2147483647
 LARGEST_SIZE = 1024
@@ -37,30 +39,34 @@ CAUSES = (
     ("BAD_PLACE", "i or j is not 1 to n"),
     ("BAD_LENGTH", "the file is under 20 bytes, or of the wrong length"),
     ("BAD_CHAIN", "the file's chain is wrong after this row"),
+    ("EQUAL_PRIMES", "p1 and p2 are the same prime"),
+    ("NO_FRACTION", "two residues have no fraction within the bound"),
 )
 BUFFERS = ("no buffer", "the table", "the second table", "the column", "work", "the result", "the file")
+FRACTION_BUFFERS = {0: "no buffer", 1: "the first residues", 2: "the second residues", 4: "the numerators", 5: "the denominators"}
 
 _CALLS = ("entry", "matrix", "apply", "apply_transpose", "transpose", "multiple", "sum", "product", "solve", "inverse",
-          "read_file", "write_file")
+          "read_file", "write_file", "fractions")
 
 Table = collections.namedtuple("Table", "p n r s words")
 Head = collections.namedtuple("Head", "p n r s first")
 
 
 class Refused(ValueError):
-    """A refusal of the library: its number and name, the buffer and the row beside it."""
+    """A refusal of the library: its number and name, the buffer and the row beside it. The row of fractions is the place, from 1."""
 
-    def __init__(self, number, buffer, row):
-        self.number, self.buffer, self.row = number, buffer, row
+    def __init__(self, number, buffer, row, buffers=BUFFERS):
+        self.number, self.buffer, self.row, self._buffers = number, buffer, row, buffers
         self.name, cause = CAUSES[number]
-        super().__init__("refused %d, %s: %s (%s, row %d)" % (number, self.name, cause, BUFFERS[buffer], row))
+        super().__init__("refused %d, %s: %s (%s, row %d)" % (number, self.name, cause, buffers[buffer], row))
 
     def __reduce__(self):
-        return Refused, (self.number, self.buffer, self.row)
+        return Refused, (self.number, self.buffer, self.row, self._buffers)
 
 
 class BadArgument(ValueError):
-    """An argument that cannot be handed to the library: no whole number from 0 to 4294967295, no sequence of such, no bytes."""
+    """An argument that cannot be handed to the library: no whole number from 0 to 4294967295, no sequence of such, no bytes,
+    or two sequences of different lengths for fractions."""
 
 
 # ---- the shared library ----
@@ -96,7 +102,8 @@ def _run(call, numbers, *buffers):
         load()
     reply = getattr(_library, "residues_" + call)(*arguments)
     if reply & 255:
-        raise Refused(reply & 255, reply >> 8 & 255, reply >> 16 & 65535)
+        named = FRACTION_BUFFERS if call == "fractions" else BUFFERS
+        raise Refused(reply & 255, reply >> 8 & 255, reply >> 16 & 65535, named)
     return reply >> 32
 
 
@@ -138,8 +145,8 @@ def _bytes(name, data):
     return (ctypes.c_uint8 * len(data)).from_buffer_copy(data)
 
 
-def _blank(count):
-    return (ctypes.c_uint32 * count)()
+def _blank(count, word=ctypes.c_uint32):
+    return (word * count)()
 
 
 def _limited(n, r, s):
@@ -252,6 +259,19 @@ def write_file(p, n, r, s, table):
     file = (ctypes.c_uint8 * file_bytes(*_limited(n, r, s)))()
     _run("write_file", numbers, _words("table", table), file)
     return bytes(file)
+
+
+def fractions(p1, p2, xs, ys):
+    """The fractions that have the residues xs under p1 and ys under p2, two different primes, as fractions.Fraction, place by place.
+    xs and ys have one length."""
+    numbers = _numbers(p1=p1, p2=p2)
+    first, second = _words("xs", xs), _words("ys", ys)
+    n = len(first)
+    if len(second) != n:
+        raise BadArgument("xs and ys have different lengths, %d and %d" % (n, len(second)))
+    numerators, denominators = _blank(n, ctypes.c_int32), _blank(n)
+    _run("fractions", numbers + _numbers(n=n), first, second, numerators, denominators)
+    return [Fraction(*parts) for parts in zip(numerators, denominators)]
 
 
 def _column_call(call, numbers, table, column, *work):

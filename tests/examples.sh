@@ -66,5 +66,6 @@ run_python() {
     owe_printed solve-surplus 1 "${within[@]}" "${solve[@]}" 4 4 5 6
     owe_printed solve-no-number 1 "${within[@]}" "${solve[@]}" 4 4 x
     owe_printed solve-no-file 1 "${within[@]}" python3 "$examples/solve.py" no-such-file 4
+    owe_printed exact 0 "${within[@]}" python3 "$examples/exact.py"
     "${within[@]}" python3 "$here/python/test_residues.py"
 }

@@ -5,6 +5,9 @@ use crate::library;
 use plain::Refusal;
 use std::hint::black_box;
 
+/// Both orders of each table.
+const ORDERS: [u32; 4] = [1, 2, 4, 8];
+
 /// A call by one program on what it is lent: the value of its reply, 0 where it has none, or nothing where it is refused.
 pub type Run<T> = fn(&mut T) -> Option<u32>;
 
@@ -16,7 +19,7 @@ pub struct Call {
 }
 
 /// The result: a table that joins two, of twice their order, a table of the same order, a column, the whole matrix, the value of
-/// the reply, or a row file.
+/// the reply, a row file, or fractions, which have no orders.
 #[derive(Clone, Copy, PartialEq)]
 pub enum Leaves {
     Joined,
@@ -25,6 +28,7 @@ pub enum Leaves {
     Matrix,
     Value,
     File,
+    Fractions,
 }
 
 /// The call of this name by both programs, with the same arguments. The lent passes through black_box: neither program may know
@@ -46,7 +50,7 @@ macro_rules! call {
     };
 }
 
-pub static CALLS: [Call; 12] = [
+pub static CALLS: [Call; 13] = [
     // The entry farthest from the diagonal.
     call!(entry, Value, l: l.p, l.n, l.order, l.order, l.n, 1, &l.first),
     call!(matrix, Matrix, l: l.p, l.n, l.order, l.order, &l.first, &mut l.result),
@@ -60,6 +64,7 @@ pub static CALLS: [Call; 12] = [
     call!(inverse, Table, l: l.p, l.n, l.order, l.order, &l.first, &mut l.result),
     call!(read_file, Table, l: &l.file, &mut l.result),
     call!(write_file, File, l: l.p, l.n, l.order, l.order, &l.first, &mut l.new_file),
+    call!(fractions, Fractions, l: l.p, l.q, l.n, &l.first, &l.second, &mut l.numerators, &mut l.result),
 ];
 
 impl Call {
@@ -67,13 +72,18 @@ impl Call {
     pub fn title(&self, order: u32) -> String {
         match self.leaves {
             Leaves::Joined => format!("{} {order}+{order}", self.name),
+            Leaves::Fractions => self.name.into(),
             _ => format!("{} {order}", self.name),
         }
     }
 
-    /// Added orders above 8 are refused (6).
-    pub fn accepts(&self, order: u32) -> bool {
-        self.leaves != Leaves::Joined || 2 * order <= 8
+    /// The orders that are timed, 0 where there are none. Added orders above 8 are refused (6).
+    pub fn orders(&self) -> &'static [u32] {
+        match self.leaves {
+            Leaves::Joined => &ORDERS[..3],
+            Leaves::Fractions => &[0],
+            _ => &ORDERS,
+        }
     }
 
     /// What the time grows with: the entries of the whole matrix, else the rows.

@@ -1,9 +1,9 @@
-//! The library's calls beside FLINT's on the same matrices in full, where FLINT is installed. All that is unsafe in FLINT's
-//! calls stands here.
+//! The library's calls beside FLINT's on the same matrices in full, or on the same residues, where FLINT is installed. All that is
+//! unsafe in FLINT's calls stands here.
 
 use crate::calls::{Call, Leaves, Run};
 use crate::goals::ORDER;
-use crate::lent::{Lent, P};
+use crate::lent::{Lent, P, Q};
 use crate::measure::{in_turn, median, time, SIZES};
 use crate::report::Dense;
 use std::ffi::{c_char, c_int, CStr};
@@ -28,6 +28,15 @@ extern "C" {
     fn dense_apply(dense: *mut Matrices) -> c_int;
     fn dense_solve(dense: *mut Matrices) -> c_int;
     fn dense_inverse(dense: *mut Matrices) -> c_int;
+    fn fractions_find(
+        p: u32,
+        q: u32,
+        n: u32,
+        first: *const u32,
+        second: *const u32,
+        numerators: *mut i32,
+        denominators: *mut u32,
+    ) -> c_int;
 }
 
 /// The cases of each call that is measured beside FLINT.
@@ -57,9 +66,10 @@ fn cases(call: &'static Call) -> Option<Vec<Case>> {
         "apply" => dense_apply,
         "solve" => dense_solve,
         "inverse" => dense_inverse,
+        "fractions" => return Some(SIZES[1..].iter().map(|&n| Case::fractions(call, n)).collect()),
         _ => return None,
     };
-    Some(SIZES[1..].iter().map(|&n| Case::new(call, run, n)).collect())
+    Some(SIZES[1..].iter().map(|&n| Case::dense(call, run, n)).collect())
 }
 
 fn line(cases: &mut [Case]) -> Dense {
@@ -71,18 +81,22 @@ fn line(cases: &mut [Case]) -> Dense {
     Dense { call, ratios, library, flint }
 }
 
-/// A call on lent tables, and on the same matrices in full.
+/// A call on what it is lent, and on the same in FLINT's form.
 struct Case {
     call: &'static Call,
     lent: Lent,
-    run: DenseRun,
-    matrices: *mut Matrices,
-    /// The words of FLINT's result.
-    words: usize,
+    held: Held,
+}
+
+enum Held {
+    /// The matrices, and the words of FLINT's result.
+    Dense(DenseRun, *mut Matrices, usize),
+    /// FLINT's numerators and denominators.
+    Fractions(Vec<i32>, Vec<u32>),
 }
 
 impl Case {
-    fn new(call: &'static Call, run: DenseRun, n: u32) -> Case {
+    fn dense(call: &'static Call, run: DenseRun, n: u32) -> Case {
         let lent = Lent::new(call, n, ORDER);
         let first = full(n, ORDER, &lent.first);
         let second = match call.leaves {
@@ -92,21 +106,33 @@ impl Case {
         };
         let columns = second.len() as u32 / n;
         let matrices = unsafe { dense_new(P, n, columns, first.as_ptr(), second.as_ptr()) };
-        Case { call, lent, run, matrices, words: second.len() }
+        Case { call, lent, held: Held::Dense(run, matrices, second.len()) }
     }
 
-    /// Both have the same matrix or column.
+    fn fractions(call: &'static Call, n: u32) -> Case {
+        let held = Held::Fractions(vec![0; n as usize], vec![0; n as usize]);
+        Case { call, lent: Lent::new(call, n, 0), held }
+    }
+
+    /// Both have the same matrix, column or fractions.
     fn check(&mut self) {
         assert!(self.library().is_some() && self.flint().is_some(), "{} is refused", self.call.name);
-        let mut words = vec![0; self.words];
-        unsafe { dense_words(self.matrices, words.as_mut_ptr()) };
+        let same = match &self.held {
+            Held::Dense(_, matrices, count) => self.is_dense_result(*matrices, *count),
+            Held::Fractions(numerators, denominators) => (numerators, denominators) == (&self.lent.numerators, &self.lent.result),
+        };
+        assert!(same, "the library and FLINT differ in {} at N {}", self.call.name, self.lent.n);
+    }
+
+    fn is_dense_result(&self, matrices: *const Matrices, count: usize) -> bool {
+        let mut words = vec![0; count];
+        unsafe { dense_words(matrices, words.as_mut_ptr()) };
         let (n, result) = (self.lent.n, &self.lent.result);
-        let same = match self.call.leaves {
+        match self.call.leaves {
             Leaves::Joined => full(n, 2 * ORDER, result) == words,
             Leaves::Table => full(n, ORDER, result) == words,
             _ => *result == words,
-        };
-        assert!(same, "the library and FLINT differ in {} at N {n}", self.call.name);
+        }
     }
 
     /// The rounds' times of the library and of FLINT, which take turns in going first.
@@ -135,14 +161,23 @@ impl Case {
     }
 
     fn flint(&mut self) -> Option<u32> {
-        let accepted = unsafe { (self.run)(self.matrices) != 0 };
-        accepted.then_some(0)
+        let Lent { n, first, second, .. } = &self.lent;
+        let (first, second) = (first.as_ptr(), second.as_ptr());
+        let accepted = match &mut self.held {
+            Held::Dense(run, matrices, _) => unsafe { run(*matrices) },
+            Held::Fractions(numerators, denominators) => unsafe {
+                fractions_find(P, Q, *n, first, second, numerators.as_mut_ptr(), denominators.as_mut_ptr())
+            },
+        };
+        (accepted != 0).then_some(0)
     }
 }
 
 impl Drop for Case {
     fn drop(&mut self) {
-        unsafe { dense_free(self.matrices) }
+        if let Held::Dense(_, matrices, _) = self.held {
+            unsafe { dense_free(matrices) }
+        }
     }
 }
 

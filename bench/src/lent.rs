@@ -4,9 +4,14 @@ use crate::calls::{Call, Leaves};
 
 pub const P: u32 = 2_147_483_647;
 
-/// The numbers and buffers for tables of one order, below the diagonal and above it. No table in use has a zero pivot.
+/// The second prime of fractions.
+pub const Q: u32 = 2_147_483_629;
+
+/// The numbers and buffers for tables of one order, below the diagonal and above it, or for fractions. No table in use has a zero
+/// pivot, and no place is without a fraction.
 pub struct Lent {
     pub p: u32,
+    pub q: u32,
     pub n: u32,
     pub order: u32,
     pub factor: u32,
@@ -16,6 +21,8 @@ pub struct Lent {
     /// The row file of the first table, its records in the order of the rows.
     pub file: Vec<u8>,
     pub work: Vec<u32>,
+    pub numerators: Vec<i32>,
+    /// Denominators too.
     pub result: Vec<u32>,
     pub new_file: Vec<u8>,
 }
@@ -27,34 +34,52 @@ impl Lent {
         let first = random.residues(words);
         let mut file = vec![0; 4 * (5 + rows + words)];
         plain::write_file(P, n, order, order, &first, &mut file).expect("a table of residues");
-        Lent {
+        let lent = Lent {
             p: P,
+            q: Q,
             n,
             order,
             second: random.residues(words),
             column: random.residues(rows),
             factor: random.residue(),
             work: vec![0; rows * order as usize],
+            numerators: vec![0; if call.leaves == Leaves::Fractions { rows } else { 0 }],
             result: vec![0; result_words(call, rows, order)],
             new_file: vec![0; file.len()],
             first,
             file,
+        };
+        match call.leaves {
+            Leaves::Fractions => lent.with_fractions(&mut random),
+            _ => lent,
         }
     }
 
-    /// Takes what a call has written, and leaves other words.
-    pub fn take_written(&mut self) -> (Vec<u32>, Vec<u32>, Vec<u8>) {
-        let take = |words: &mut Vec<u32>| std::mem::replace(words, vec![u32::MAX; words.len()]);
-        let file = vec![u8::MAX; self.new_file.len()];
-        (take(&mut self.work), take(&mut self.result), std::mem::replace(&mut self.new_file, file))
+    /// In place of the tables, residues that have fractions.
+    fn with_fractions(self, random: &mut Random) -> Lent {
+        let has_fraction = |&(x, y): &(u32, u32)| plain::fractions(P, Q, 1, &[x], &[y], &mut [0], &mut [0]).is_ok();
+        let places = std::iter::repeat_with(|| (random.residue_of(P), random.residue_of(Q))).filter(has_fraction);
+        let (first, second) = places.take(self.n as usize).unzip();
+        Lent { first, second, ..self }
     }
+
+    /// Takes what a call has written, and leaves other words.
+    pub fn take_written(&mut self) -> (Vec<u32>, Vec<i32>, Vec<u32>, Vec<u8>) {
+        let (work, result) = (take(&mut self.work, u32::MAX), take(&mut self.result, u32::MAX));
+        (work, take(&mut self.numerators, i32::MAX), result, take(&mut self.new_file, u8::MAX))
+    }
+}
+
+fn take<T: Copy>(written: &mut Vec<T>, other: T) -> Vec<T> {
+    let others = vec![other; written.len()];
+    std::mem::replace(written, others)
 }
 
 fn result_words(call: &Call, rows: usize, order: u32) -> usize {
     match call.leaves {
         Leaves::Joined => rows * row_words(2 * order),
         Leaves::Table => rows * row_words(order),
-        Leaves::Column => rows,
+        Leaves::Column | Leaves::Fractions => rows,
         Leaves::Matrix => rows * rows,
         Leaves::Value | Leaves::File => 0,
     }
@@ -75,7 +100,11 @@ impl Random {
     }
 
     fn residue(&mut self) -> u32 {
-        (self.next() % P as u64) as u32
+        self.residue_of(P)
+    }
+
+    fn residue_of(&mut self, p: u32) -> u32 {
+        (self.next() % p as u64) as u32
     }
 
     fn next(&mut self) -> u64 {

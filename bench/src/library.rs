@@ -31,6 +31,7 @@ calls! {
     inverse = residues_inverse(p, n, r, s; table: u32; result: u32);
     read_file = residues_read_file(; file: u8; result: u32);
     write_file = residues_write_file(p, n, r, s; table: u32; file: u8);
+    fractions = residues_fractions(p, q, n; first: u32, second: u32; numerators: i32, denominators: u32);
 }
 
 /// The value of a reply whose number is 0.

@@ -17,9 +17,6 @@ use measure::{Case, Effort};
 use report::{Dense, Line};
 use std::time::{Duration, Instant};
 
-/// Both orders of each table.
-const ORDERS: [u32; 4] = [1, 2, 4, 8];
-
 fn main() {
     let start = Instant::now();
     let calls = wanted(std::env::args().nth(1));
@@ -40,13 +37,13 @@ fn wanted(name: Option<String>) -> Vec<&'static Call> {
 }
 
 fn cases(calls: &[&'static Call]) -> Vec<Case> {
-    let all = calls.iter().flat_map(|&call| ORDERS.map(|order| (call, order)));
-    all.filter(|(call, order)| call.accepts(*order)).map(|(call, order)| Case::new(call, order)).collect()
+    let all = calls.iter().flat_map(|&call| call.orders().iter().map(move |&order| (call, order)));
+    all.map(|(call, order)| Case::new(call, order)).collect()
 }
 
 /// The calls that have goals are measured longer. Each call's name is shown as it begins.
 fn line(case: &mut Case) -> Line {
-    if case.order == ORDERS[0] {
+    if case.order == case.call.orders()[0] {
         eprintln!("{} ..", case.call.name);
     }
     let effort = if goals::has_goal(case.call.name, case.order) {
@@ -59,11 +56,14 @@ fn line(case: &mut Case) -> Line {
 
 fn print(lines: &[Line], flint: Option<String>, dense: &[Dense]) {
     let rounds = lines.iter().map(|line| line.times.rounds.len()).min().unwrap_or(0);
-    println!("P {}, random residues, at least {rounds} rounds; times and ratios are medians of the rounds'.", lent::P);
+    let (p, q) = (lent::P, lent::Q);
+    println!(
+        "P {p}, of fractions {q} too, random residues, at least {rounds} rounds; times and ratios are medians of the rounds'."
+    );
     report::print_ratios(lines);
     report::print_growth(lines);
     match flint {
-        None => println!("\nFLINT (libflint-dev) is not installed: its dense calls are left out."),
+        None => println!("\nFLINT (libflint-dev) is not installed: its calls are left out."),
         Some(_) if dense.is_empty() => (),
         Some(version) => report::print_dense(&version, dense),
     }

@@ -42,7 +42,8 @@ fn ratios_row(line: &Line) -> Vec<String> {
 
 /// The cost a row at N 128, less the time at N 1, and at greater N as a ratio to it.
 pub fn print_growth(lines: &[Line]) {
-    println!("\nTime a row (matrix: an entry) less the time at N 1: the library's at N 128, then ratios to that at N 128:\n");
+    println!("\nTime a row (matrix: an entry; fractions: a place) less the time at N 1:");
+    println!("the library's at N 128, then ratios to that at N 128:\n");
     let head = ["call", "N 128", "N 256", "N 512", "N 1024", "plain: N 256", "N 512", "N 1024"];
     print_table(&head, lines.iter().map(growth_row).collect());
 }
@@ -59,7 +60,9 @@ const PLAIN: fn(&Pair) -> f64 = |pair| pair.plain;
 
 /// Ratios FLINT / library at each size, and the times of whole calls.
 pub fn print_dense(version: &str, dense: &[Dense]) {
-    println!("\nFLINT {version} on the matrices in full, orders {ORDER}, ratios FLINT / library; times at N 1024:\n");
+    println!(
+        "\nFLINT {version} on the matrices in full, orders {ORDER}, and on residues; ratios FLINT / library; times at N 1024:\n"
+    );
     let head = ["call", "N 128", "N 256", "N 512", "N 1024", "library", "FLINT"];
     print_table(&head, dense.iter().map(dense_row).collect());
 }

@@ -15,7 +15,8 @@
 #define P 2147483647u
 #define BUFFERS 6
 
-/* The buffers of a case in their order, and their numbers in a reply. */
+/* The buffers of a case in their order, and their numbers in a reply. Fractions lend residues as both tables, numerators as work
+ * and denominators as result. */
 enum { TABLE, SECOND, COLUMN, WORK, RESULT, FILE_BYTES };
 static const uint32_t number_of[BUFFERS] = {RESIDUES_TABLE, RESIDUES_SECOND_TABLE, RESIDUES_COLUMN, RESIDUES_WORK,
                                             RESIDUES_RESULT, RESIDUES_FILE};
@@ -29,9 +30,9 @@ typedef struct {
     size_t count;
 } lent;
 
-/* The numbers of a call; r2 and s2 are the second table's orders. */
+/* The numbers of a call; r2 and s2 are the second table's orders, p2 is the second prime. */
 typedef struct {
-    uint32_t p, n, r, s, i, j, c, r2, s2;
+    uint32_t p, n, r, s, i, j, c, r2, s2, p2;
 } numbers;
 
 typedef uint64_t caller(const numbers *x, const lent *b);
@@ -113,7 +114,14 @@ static uint64_t run_write_file(const numbers *x, const lent *b)
     return residues_write_file(x->p, x->n, x->r, x->s, b[TABLE].words, b[TABLE].count, b[FILE_BYTES].file, b[FILE_BYTES].count);
 }
 
-enum { ENTRY, MATRIX, APPLY, APPLY_TRANSPOSE, SOLVE, TRANSPOSE, MULTIPLE, INVERSE, SUM, PRODUCT, READ_FILE, WRITE_FILE, CALLS };
+static uint64_t run_fractions(const numbers *x, const lent *b)
+{
+    return residues_fractions(x->p, x->p2, x->n, b[TABLE].words, b[TABLE].count, b[SECOND].words, b[SECOND].count,
+                              (int32_t *)b[WORK].words, b[WORK].count, b[RESULT].words, b[RESULT].count);
+}
+
+enum { ENTRY, MATRIX, APPLY, APPLY_TRANSPOSE, SOLVE, TRANSPOSE, MULTIPLE, INVERSE, SUM, PRODUCT, READ_FILE, WRITE_FILE, FRACTIONS,
+       CALLS };
 static const call calls[CALLS] = {
     {"residues_entry", run_entry, {1, 0, 0, 0, 0, 0}},
     {"residues_matrix", run_matrix, {1, 0, 0, 0, 1, 0}},
@@ -127,6 +135,7 @@ static const call calls[CALLS] = {
     {"residues_product", run_product, {1, 1, 0, 0, 1, 0}},
     {"residues_read_file", run_read_file, {0, 0, 0, 0, 1, 1}},
     {"residues_write_file", run_write_file, {1, 0, 0, 0, 0, 1}},
+    {"residues_fractions", run_fractions, {1, 1, 0, 1, 1, 0}},
 };
 
 static int uses(const call *f, int buffer)
@@ -137,6 +146,11 @@ static int uses(const call *f, int buffer)
 static inline int reads_file(const call *f)
 {
     return f == &calls[READ_FILE];
+}
+
+static inline int has_two_primes(const call *f)
+{
+    return f == &calls[FRACTIONS];
 }
 
 static inline int is_written(const call *f, int buffer)
@@ -279,8 +293,8 @@ static lent prepare(const call *f, const problem *q, int buffer, size_t count, i
 static void note(const call *f, const numbers *x, const lent *b, int at_end)
 {
     snprintf(doing, sizeof doing,
-             "%s, p %u n %u r %u s %u i %u j %u c %u r2 %u s2 %u, counts %lu %lu %lu %lu %lu %lu, at the %s",
-             f->name, x->p, x->n, x->r, x->s, x->i, x->j, x->c, x->r2, x->s2, (unsigned long)b[TABLE].count,
+             "%s, p %u n %u r %u s %u i %u j %u c %u r2 %u s2 %u p2 %u, counts %lu %lu %lu %lu %lu %lu, at the %s",
+             f->name, x->p, x->n, x->r, x->s, x->i, x->j, x->c, x->r2, x->s2, x->p2, (unsigned long)b[TABLE].count,
              (unsigned long)b[SECOND].count, (unsigned long)b[COLUMN].count, (unsigned long)b[WORK].count,
              (unsigned long)b[RESULT].count, (unsigned long)b[FILE_BYTES].count, at_end ? "end" : "beginning");
 }
@@ -366,21 +380,35 @@ static void try_refused(const call *f, const problem *q, uint64_t owed)
     try_counts(f, q, empty, 1, 1, owed);
 }
 
-static void try_numbers(const call *f, const problem *q)
+static void try_primes_and_sizes(const call *f, const problem *q)
 {
     static const uint32_t wrong_p[] = {0, 1, 4, 9, 2047, 2147483648u, 4294967295u};
     static const uint32_t wrong_n[] = {0, 1025, 65536, 1073741824u, 4294967295u};
-    static const uint32_t wrong_order[] = {9, 65535, 65536, 2147483648u, 4294967295u};
     problem wrong = *q;
     size_t k;
     for (k = reads_file(f) ? 1 : 0; k < COUNT(wrong_p); k++, wrong = *q) {
         wrong.x.p = wrong_p[k];
         try_refused(f, &wrong, refusal(RESIDUES_BAD_PRIME, 0, 0));
     }
-    for (k = 0; k < COUNT(wrong_n); k++, wrong = *q) {
+    for (k = 0; k < 2 * COUNT(wrong_p) && has_two_primes(f); k++, wrong = *q) {
+        wrong.x.p2 = wrong_p[k / 2];
+        wrong.x.p = k % 2 == 0 ? q->x.p : wrong.x.p2;
+        try_refused(f, &wrong, refusal(RESIDUES_BAD_PRIME, 0, 0));
+    }
+    wrong.x.p2 = wrong.x.p;
+    if (has_two_primes(f))
+        try_refused(f, &wrong, refusal(RESIDUES_EQUAL_PRIMES, 0, 0));
+    for (k = 0, wrong = *q; k < COUNT(wrong_n); k++, wrong = *q) {
         wrong.x.n = wrong_n[k];
         try_refused(f, &wrong, refusal(RESIDUES_BAD_SIZE, 0, 0));
     }
+}
+
+static void try_orders(const call *f, const problem *q)
+{
+    static const uint32_t wrong_order[] = {9, 65535, 65536, 2147483648u, 4294967295u};
+    problem wrong = *q;
+    size_t k;
     for (k = 0; k < 2 * COUNT(wrong_order); k++, wrong = *q) {
         *(k % 2 == 0 ? &wrong.x.r : &wrong.x.s) = wrong_order[k / 2];
         try_refused(f, &wrong, refusal(RESIDUES_BAD_ORDER, reads_file(f) ? RESIDUES_FILE : RESIDUES_TABLE, 0));
@@ -394,6 +422,15 @@ static void try_numbers(const call *f, const problem *q)
         *(k % 2 == 0 ? &wrong.x.r2 : &wrong.x.s2) = 8 - (uint32_t)k / 2;
         try_refused(f, &wrong, refusal(RESIDUES_BAD_ORDER_SUM, 0, 0));
     }
+}
+
+static void try_numbers(const call *f, const problem *q)
+{
+    problem wrong = *q;
+    size_t k;
+    try_primes_and_sizes(f, q);
+    if (!has_two_primes(f))
+        try_orders(f, q);
     for (k = 0; k < 4 && f == &calls[ENTRY]; k++, wrong = *q) {
         *(k % 2 == 0 ? &wrong.x.i : &wrong.x.j) = k < 2 ? 0 : q->x.n + 1;
         try_refused(f, &wrong, refusal(RESIDUES_BAD_PLACE, 0, 0));
@@ -412,7 +449,7 @@ static void try_words(const call *f, const problem *q)
         words = malloc(q->needed[buffer] * sizeof *words);
         check(words != NULL, "no memory");
         memcpy(words, q->words[buffer], q->needed[buffer] * sizeof *words);
-        words[q->needed[buffer] / q->x.n * (q->x.n - 1)] = q->x.p;
+        words[q->needed[buffer] / q->x.n * (q->x.n - 1)] = has_two_primes(f) && buffer == SECOND ? q->x.p2 : q->x.p;
         wrong.words[buffer] = words;
         try_counts(f, &wrong, q->needed, 0, 1, refusal(RESIDUES_BAD_WORD, number_of[buffer], q->x.n));
         wrong.words[buffer] = q->words[buffer];
@@ -456,25 +493,31 @@ static void try_problem(int which, numbers x, const uint32_t *table, const uint3
     try_whole(&calls[which], &q);
 }
 
-/* The table with another d in a row, whose pivot is then zero: neither work nor result is written. */
+/* Refused only after every word is known: neither work nor result is written. */
+static void try_late_refusal(const call *f, const problem *wrong, uint64_t owed)
+{
+    size_t longer[BUFFERS];
+    int buffer, at_end;
+    for (buffer = 0; buffer < BUFFERS; buffer++)
+        longer[buffer] = wrong->needed[buffer] + 3;
+    for (at_end = 0; at_end < 2; at_end++) {
+        try_counts(f, wrong, wrong->needed, 0, at_end, owed);
+        try_counts(f, wrong, longer, 0, at_end, owed);
+    }
+    try_counts(f, wrong, wrong->needed, 1, 1, owed);
+}
+
+/* The table with another d in a row, whose pivot is then zero. */
 static void try_singular(const call *f, const problem *q, uint32_t row, uint32_t d)
 {
     problem wrong = *q;
-    size_t longer[BUFFERS], count = q->needed[TABLE];
+    size_t count = q->needed[TABLE];
     uint32_t *words = malloc(count * sizeof *words);
-    const uint64_t owed = refusal(RESIDUES_ZERO_PIVOT, RESIDUES_TABLE, row);
-    int buffer, at_end;
     check(words != NULL, "no memory");
     memcpy(words, q->words[TABLE], count * sizeof *words);
     words[count / q->x.n * (row - 1)] = d;
     wrong.words[TABLE] = words;
-    for (buffer = 0; buffer < BUFFERS; buffer++)
-        longer[buffer] = q->needed[buffer] + 3;
-    for (at_end = 0; at_end < 2; at_end++) {
-        try_counts(f, &wrong, q->needed, 0, at_end, owed);
-        try_counts(f, &wrong, longer, 0, at_end, owed);
-    }
-    try_counts(f, &wrong, q->needed, 1, 1, owed);
+    try_late_refusal(f, &wrong, refusal(RESIDUES_ZERO_PIVOT, RESIDUES_TABLE, row));
     free(words);
 }
 
@@ -500,6 +543,7 @@ static void try_one_buffer_twice(const call *f, const problem *q, int at_end)
     note(f, &q->x, b, at_end);
     check_reply(f->run(&q->x, b), 0);
     check_units(f, q, &b[TABLE], TABLE, 1);
+    check_units(f, q, &b[WORK], WORK, 1);
     check_units(f, q, &b[RESULT], RESULT, 1);
     for (buffer = 0; buffer < BUFFERS; buffer++)
         if (buffer != SECOND)
@@ -626,7 +670,7 @@ static void file_m(void)
     static const uint32_t read[] = {7, 3, 1, 1, 2, 0, 5, 3, 9, 9, 9, 9, 4, 3, 1, 9, 9, 2, 1, 9, 9, 1, 3, 1, 2, 1, 2, 3, 1};
     static const uint32_t written[] = {7, 3, 1, 1, 1, 2, 1, 0, 0, 2, 1, 0, 0, 3, 3, 1, 2, 1, 2, 3, 1, 0, 5, 3, 0, 0, 0, 0, 4};
     static const uint32_t as_read[] = {1, 0, 0, 2, 1, 0, 0, 3, 1, 2, 1, 2, 3, 1, 5, 3, 0, 0, 0, 0, 4};
-    const numbers x = {7, 3, 1, 1, 3, 1, 3, 1, 1};
+    const numbers x = {7, 3, 1, 1, 3, 1, 3, 1, 1, 0};
     try_problem(ENTRY, x, table, column, NULL, 5);
     try_problem(MATRIX, x, table, column, matrix, 0);
     try_problem(APPLY, x, table, column, applied, 0);
@@ -814,7 +858,7 @@ static void known_files(numbers x, const uint32_t *table)
 /* d 5, p 2, g 3, applied to ones, and solved for ones. */
 static void known(uint32_t n, uint32_t r, uint32_t s)
 {
-    const numbers x = {P, n, r, s, n, 1, P - 1, 0, 0};
+    const numbers x = {P, n, r, s, n, 1, P - 1, 0, 0, 0};
     const size_t words = residues_table_words(n, r, s);
     uint32_t *table = room(words), *column = room(n), *square = room((size_t)n * n), *result = room(words);
     uint32_t i, j;
@@ -834,7 +878,7 @@ static void known(uint32_t n, uint32_t r, uint32_t s)
         result[i - 1] = 5 + (i - 1) * 3 * s + (n - i) * 2 * r;
     try_problem(APPLY_TRANSPOSE, x, table, column, result, 0);
     {
-        const numbers turned = {P, n, s, r, 1, 1, 1, 0, 0};
+        const numbers turned = {P, n, s, r, 1, 1, 1, 0, 0, 0};
         fill(result, turned, 5, 1, 3, 1, 2, 0);
         try_problem(TRANSPOSE, x, table, column, result, 0);
     }
@@ -898,7 +942,7 @@ static void fill_product(uint32_t *w, numbers x)
 /* The sum and the product of two tables whose matrices are known. */
 static void known_pair(uint32_t n, uint32_t r1, uint32_t s1, uint32_t r2, uint32_t s2)
 {
-    const numbers x = {P, n, r1, s1, 1, 1, 1, r2, s2}, y = {P, n, r2, s2, 1, 1, 1, 0, 0};
+    const numbers x = {P, n, r1, s1, 1, 1, 1, r2, s2, 0}, y = {P, n, r2, s2, 1, 1, 1, 0, 0, 0};
     uint32_t *first = room(residues_table_words(n, r1, s1)), *second = room(residues_table_words(n, r2, s2));
     uint32_t *result = room(residues_table_words(n, r1 + r2, s1 + s2));
     fill(first, x, 5, 2, 1, 3, 1, 4294967295u);
@@ -910,6 +954,83 @@ static void known_pair(uint32_t n, uint32_t r1, uint32_t s1, uint32_t r2, uint32
     free(first);
     free(second);
     free(result);
+}
+
+/* ---- fractions ---- */
+
+/* A place with the residues of the whole number bound + 1, which no fraction within the bound has. */
+static void try_without(const problem *q, uint32_t place, uint32_t bound)
+{
+    problem wrong = *q;
+    uint32_t *first = room(q->x.n), *second = room(q->x.n);
+    memcpy(first, q->words[TABLE], q->x.n * sizeof *first);
+    memcpy(second, q->words[SECOND], q->x.n * sizeof *second);
+    first[place - 1] = (bound + 1) % q->x.p;
+    second[place - 1] = (bound + 1) % q->x.p2;
+    wrong.words[TABLE] = first;
+    wrong.words[SECOND] = second;
+    try_late_refusal(&calls[FRACTIONS], &wrong, refusal(RESIDUES_NO_FRACTION, 0, place));
+    free(first);
+    free(second);
+}
+
+static void try_fractions(numbers x, uint32_t bound, const uint32_t *first, const uint32_t *second, const uint32_t *numerators,
+                          const uint32_t *denominators)
+{
+    const call *f = &calls[FRACTIONS];
+    problem q;
+    memset(&q, 0, sizeof q);
+    q.x = x;
+    q.words[TABLE] = first;
+    q.words[SECOND] = second;
+    q.words[WORK] = numerators;
+    q.words[RESULT] = denominators;
+    q.needed[TABLE] = q.needed[SECOND] = q.needed[WORK] = q.needed[RESULT] = x.n;
+    try_whole(f, &q);
+    try_without(&q, 1, bound);
+    try_without(&q, x.n, bound);
+    if (first == second) {
+        try_one_buffer_twice(f, &q, 0);
+        try_one_buffer_twice(f, &q, 1);
+    }
+}
+
+/* 5/6, -6/5 and 0/1, then whole numbers, whose residues are the same under both primes. */
+static void small_fractions(void)
+{
+    static const uint32_t first[] = {2, 3, 0}, second[] = {10, 1, 0};
+    static const uint32_t numerators[] = {5, 4294967290u, 0}, denominators[] = {6, 5, 1};
+    static const uint32_t whole[] = {6, 0, 5}, ones[] = {1, 1, 1};
+    const numbers x = {7, 3, 0, 0, 0, 0, 0, 0, 0, 11};
+    try_fractions(x, 6, first, second, numerators, denominators);
+    try_fractions(x, 6, whole, whole, whole, ones);
+}
+
+/* k/2 under an odd prime, or -k/2. */
+static uint32_t half(uint32_t p, uint32_t k, int negative)
+{
+    const uint32_t residue = (k % 2 == 0 ? k : k + p) / 2;
+    return negative ? p - residue : residue;
+}
+
+/* 1/2, 1, -3/2, -2, 5/2, .. in lowest terms. */
+static void halves(uint32_t p1, uint32_t p2, uint32_t n, uint32_t bound)
+{
+    const numbers x = {p1, n, 0, 0, 0, 0, 0, 0, 0, p2};
+    uint32_t *first = room(n), *second = room(n), *numerators = room(n), *denominators = room(n), k;
+    for (k = 1; k <= n; k++) {
+        const int negative = k % 4 == 3 || k % 4 == 0;
+        const uint32_t size = k % 2 == 0 ? k / 2 : k;
+        first[k - 1] = half(p1, k, negative);
+        second[k - 1] = half(p2, k, negative);
+        numerators[k - 1] = negative ? 0 - size : size;
+        denominators[k - 1] = k % 2 == 0 ? 1 : 2;
+    }
+    try_fractions(x, bound, first, second, numerators, denominators);
+    free(first);
+    free(second);
+    free(numerators);
+    free(denominators);
 }
 
 int main(void)
@@ -937,6 +1058,12 @@ int main(void)
     known_pair(1024, 1, 1, 1, 1);
     known_pair(1024, 4, 4, 4, 4);
     known_pair(1024, 3, 6, 5, 2);
+    small_fractions();
+    halves(5, 3, 1, 2);
+    halves(101, 103, 2, 72);
+    halves(103, 101, 9, 72);
+    halves(P, 2147483629u, 1023, 1518500242u);
+    halves(2147483629u, P, 1024, 1518500242u);
     printf("boundary: %lu calls passed\n", passed);
     return 0;
 }

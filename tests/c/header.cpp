@@ -2,6 +2,28 @@
 #include "residues.h"
 #include "residues.h"
 
+// -1/2 and 3/4 under 5 and 7, whose bound is 4, and a refusal by each new name.
+static bool fractions_are_right()
+{
+    const uint32_t first[] = {2, 2}, second[] = {3, 6}, five_under_5[] = {0}, five_under_7[] = {5};
+    int32_t numerators[2];
+    uint32_t denominators[2];
+    const uint64_t found = residues_fractions(5, 7, 2, first, 2, second, 2, numerators, 2, denominators, 2);
+    const uint64_t equal = residues_fractions(5, 5, 2, nullptr, 0, nullptr, 0, nullptr, 0, nullptr, 0);
+    const uint64_t none = residues_fractions(5, 7, 1, five_under_5, 1, five_under_7, 1, numerators, 2, denominators, 2);
+    const uint64_t short_first = residues_fractions(5, 7, 2, first, 1, second, 1, numerators, 1, denominators, 1);
+    const uint64_t short_second = residues_fractions(5, 7, 2, first, 2, second, 1, numerators, 1, denominators, 1);
+    const uint64_t short_numerators = residues_fractions(5, 7, 2, first, 2, second, 2, numerators, 1, denominators, 1);
+    const uint64_t short_denominators = residues_fractions(5, 7, 2, first, 2, second, 2, numerators, 2, denominators, 1);
+    const bool is_found = residues_number(found) == RESIDUES_OK && numerators[0] == -1 && denominators[0] == 2 &&
+                          numerators[1] == 3 && denominators[1] == 4;
+    const bool is_refused = residues_number(equal) == RESIDUES_EQUAL_PRIMES && residues_number(none) == RESIDUES_NO_FRACTION &&
+                            residues_buffer(none) == RESIDUES_NO_BUFFER && residues_row(none) == 1;
+    return is_found && is_refused && residues_buffer(short_first) == RESIDUES_FIRST_RESIDUES &&
+           residues_buffer(short_second) == RESIDUES_SECOND_RESIDUES && residues_buffer(short_numerators) == RESIDUES_NUMERATORS &&
+           residues_buffer(short_denominators) == RESIDUES_DENOMINATORS;
+}
+
 int main()
 {
     const uint32_t diagonal[] = {2, 3};
@@ -24,5 +46,6 @@ int main()
     const bool is_written = residues_number(written) == RESIDUES_OK && head_is_2_0_0 && file[24] == 2 && file[32] == 3;
     const bool is_read = residues_number(read) == RESIDUES_OK && residues_value(read) == 5 && table[0] == 2 && table[1] == 3;
     const bool files_are_right = is_written && is_read;
-    return entry_is_3 && sum_is_4_1 && product_is_4_4 && solution_is_1_1 && inverse_is_3_2 && files_are_right ? 0 : 1;
+    const bool tables_are_right = entry_is_3 && sum_is_4_1 && product_is_4_4 && solution_is_1_1 && inverse_is_3_2;
+    return tables_are_right && files_are_right && fractions_are_right() ? 0 : 1;
 }

@@ -1,6 +1,7 @@
 //! A case: the numbers and the buffers handed to a call, and the faults planted in it.
 
 use crate::dense::Table;
+use crate::fractions::{Primes, Residues};
 use crate::joined::Pair;
 use crate::layout::Shape;
 use crate::row_file;
@@ -14,6 +15,10 @@ pub enum Holds {
     Joined,
     /// N words.
     Column,
+    /// N residues under the first prime (0) or under the second (1).
+    Residues(usize),
+    /// N signed words.
+    Signed,
     /// N² words.
     Square,
     /// N·s words.
@@ -54,11 +59,12 @@ impl Buffer {
     }
 }
 
-/// A fault that was planted, in the order of planting: pivots are made of sound words, numbers go out of limits last, and only
-/// then a file loses its head.
+/// A fault that was planted, in the order of planting: pivots and places without a fraction are made of sound words, numbers go out
+/// of limits last, and only then a file loses its head.
 #[derive(Clone, Copy, PartialEq, Eq, PartialOrd, Ord, Debug)]
 pub enum Fault {
     Pivot,
+    Fraction,
     Word(u32),
     Short(u32),
     Chain,
@@ -69,6 +75,8 @@ pub enum Fault {
     Orders(usize),
     Size,
     Prime,
+    SecondPrime,
+    EqualPrimes,
     Head,
 }
 
@@ -76,6 +84,8 @@ pub enum Fault {
 #[derive(Clone, Debug)]
 pub struct Case {
     pub p: u32,
+    /// The second prime.
+    pub q: u32,
     pub n: u32,
     /// r and s of each table.
     pub orders: Vec<(u32, u32)>,
@@ -104,7 +114,8 @@ impl Case {
         match holds {
             Holds::Table(which) => Some(self.shape(which)),
             Holds::Joined => Some(self.joined()),
-            Holds::Column | Holds::Square | Holds::Work | Holds::WrittenFile | Holds::ReadFile => None,
+            Holds::Column | Holds::Residues(_) | Holds::Signed | Holds::Square | Holds::Work => None,
+            Holds::WrittenFile | Holds::ReadFile => None,
         }
     }
 
@@ -113,7 +124,7 @@ impl Case {
         match holds {
             Holds::Table(which) => self.shape(which).table_words(),
             Holds::Joined => self.joined().table_words(),
-            Holds::Column => self.n as usize,
+            Holds::Column | Holds::Residues(_) | Holds::Signed => self.n as usize,
             Holds::Square => self.n as usize * self.n as usize,
             Holds::Work => self.n as usize * self.shape(0).s,
             Holds::WrittenFile | Holds::ReadFile => row_file::length(self.shape(0)),
@@ -133,10 +144,35 @@ impl Case {
         &self.buffer(3).words[..self.n as usize]
     }
 
+    /// The prime that the words of a buffer are below.
+    pub fn prime_of(&self, holds: Holds) -> u32 {
+        match holds {
+            Holds::Residues(1) => self.q,
+            _ => self.p,
+        }
+    }
+
+    /// The two primes, which are different.
+    pub fn primes(&self) -> Primes {
+        Primes::new(self.p, self.q)
+    }
+
+    /// The residues of each place, under the first prime and under the second.
+    pub fn residues(&self) -> impl Iterator<Item = Residues> + '_ {
+        let (first, second) = (&self.buffer(1).words, &self.buffer(2).words);
+        first.iter().copied().zip(second.iter().copied()).take(self.n as usize)
+    }
+
+    /// Changes those of a place, from 1.
+    pub fn set_residues(&mut self, place: usize, (x, y): Residues) {
+        self.buffer_mut(1).words[place - 1] = x;
+        self.buffer_mut(2).words[place - 1] = y;
+    }
+
     /// A case of reading a file.
     pub fn reading(result: Vec<u32>, file: &[u32]) -> Case {
         let buffers = vec![Buffer::new(5, Holds::Table(0), result), Buffer::new(6, Holds::ReadFile, file.to_vec())];
-        let mut case = Case { p: 1, n: 1, orders: vec![(1, 1)], place: (1, 1), c: 1, buffers, faults: vec![] };
+        let mut case = Case { p: 1, q: 1, n: 1, orders: vec![(1, 1)], place: (1, 1), c: 1, buffers, faults: vec![] };
         case.read_head();
         case
     }

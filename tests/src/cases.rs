@@ -18,7 +18,13 @@ pub fn draw(call: &Call, random: &mut Random) -> Case {
         case.buffer_mut(1).words = draw_table(case.p, case.shape(0), random);
     }
     add_surplus(&mut case, random);
-    for fault in faults::draw(call, random) {
+    let faults = faults::draw(call, random);
+    with_faults(case, faults, random)
+}
+
+/// A sound case with faults planted in it, in their order.
+pub fn with_faults(mut case: Case, faults: Vec<Fault>, random: &mut Random) -> Case {
+    for fault in faults {
         faults::plant(&mut case, fault, random);
         case.faults.push(fault);
     }
@@ -29,15 +35,16 @@ pub fn draw(call: &Call, random: &mut Random) -> Case {
     case
 }
 
-/// All numbers within limits, all buffers exact, no zero pivot where a call would refuse it.
+/// All numbers within limits, all buffers exact, no zero pivot and no place without a fraction where a call would refuse it.
 pub fn sound(call: &Call, random: &mut Random) -> Case {
     let (p, n) = (draw_prime(random), draw_size(random));
     let orders = draw_orders(call.tables, n, random);
-    let mut case = Case { p, n, orders, place: (1, 1), c: 1, buffers: vec![], faults: vec![] };
+    let mut case = Case { p, q: 1, n, orders, place: (1, 1), c: 1, buffers: vec![], faults: vec![] };
     match call.number {
         Number::None => {}
         Number::Place => case.place = draw_place(n, random),
         Number::Factor => case.c = draw_residue(p, random),
+        Number::Prime => case.q = draw_other_prime(p, random),
     }
     for &(number, holds) in call.buffers {
         let mut buffer = Buffer::new(number, holds, vec![]);
@@ -48,6 +55,9 @@ pub fn sound(call: &Call, random: &mut Random) -> Case {
         let (p, shape) = (case.p, case.shape(0));
         make_regular(p, shape, &mut case.buffer_mut(1).words, random);
     }
+    if call.number == Number::Prime {
+        make_fractions(&mut case, random);
+    }
     case
 }
 
@@ -57,7 +67,17 @@ pub fn draw_prime(random: &mut Random) -> u32 {
         return random.one_of(&PRIMES);
     }
     let most = LARGEST_PRIME >> random.below(30);
+    draw_prime_to(most, random)
+}
+
+/// A prime of at most so much.
+pub fn draw_prime_to(most: u32, random: &mut Random) -> u32 {
     std::iter::repeat_with(|| random.between(2, most)).find(|&p| is_prime(p)).expect("there is a prime")
+}
+
+/// A prime other than this one.
+pub fn draw_other_prime(p: u32, random: &mut Random) -> u32 {
+    std::iter::repeat_with(|| draw_prime(random)).find(|&q| q != p).expect("there is another prime")
 }
 
 /// Mostly small, at times up to 1,024.
@@ -89,6 +109,7 @@ fn draw_order(n: u32, random: &mut Random) -> u32 {
 fn draw_orders(tables: usize, n: u32, random: &mut Random) -> Vec<(u32, u32)> {
     let (r, s) = (draw_order(n, random), draw_order(n, random));
     match tables {
+        0 => vec![],
         1 => vec![(r, s)],
         _ if random.once_in(6) => vec![(r.min(4), s.min(4)); 2],
         _ => vec![(r, s), (draw_beside(r, n, random), draw_beside(s, n, random))],
@@ -184,7 +205,7 @@ fn draw_words(case: &Case, buffer: &Buffer, random: &mut Random) -> Vec<u32> {
     match buffer.holds {
         Holds::Table(which) => draw_table(case.p, case.shape(which), random),
         Holds::ReadFile => draw_file(case.p, case.shape(0), random),
-        _ => draw_residues(case.p, needed, random),
+        holds => draw_residues(case.prime_of(holds), needed, random),
     }
 }
 
@@ -224,6 +245,12 @@ pub fn make_regular(p: u32, shape: Shape, words: &mut [u32], random: &mut Random
     choose_pivots(p, shape, words, |_, m| if m == 0 { random.between(1, p - 1) } else { m });
 }
 
+/// Changes all residues to those of fractions.
+fn make_fractions(case: &mut Case, random: &mut Random) {
+    let primes = case.primes();
+    (1..=case.n as usize).for_each(|place| case.set_residues(place, primes.residues(primes.draw_fraction(random))));
+}
+
 /// Idle words: residues, zeros, the prime itself, or any words.
 fn fill_idle(words: &mut [u32], p: u32, shape: Shape, random: &mut Random) {
     let style = random.below(5);
@@ -237,9 +264,9 @@ fn fill_idle(words: &mut [u32], p: u32, shape: Shape, random: &mut Random) {
     }
 }
 
-/// Words behind what is needed, or bytes: none, a few, or a row's. A file that is read has none.
-fn add_surplus(case: &mut Case, random: &mut Random) {
-    let row = case.shape(0).row_words();
+/// Words behind what is needed, or bytes: none, a few, a row's, or a column's where there are no rows. A file that is read has none.
+pub fn add_surplus(case: &mut Case, random: &mut Random) {
+    let row = if case.orders.is_empty() { case.n as usize } else { case.shape(0).row_words() };
     for buffer in case.buffers.iter_mut().filter(|buffer| buffer.holds != Holds::ReadFile) {
         let count = random.one_of(&[0, 0, 0, 1, 2, 9, row, row + 1]);
         buffer.words.extend(draw_any(count, buffer.holds, random));

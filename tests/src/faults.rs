@@ -3,7 +3,7 @@
 use crate::calls::{Call, Number};
 use crate::case::{Case, Fault, Holds};
 use crate::random::Random;
-use crate::refusals::LARGEST_PRIME;
+use crate::refusals::{is_prime, LARGEST_PRIME};
 use crate::swept::choose_pivots;
 
 pub mod file;
@@ -27,6 +27,7 @@ pub fn all(call: &Call) -> Vec<Fault> {
         Number::None => {}
         Number::Place => faults.push(Fault::Place),
         Number::Factor => faults.push(Fault::Factor),
+        Number::Prime => faults.extend([Fault::SecondPrime, Fault::EqualPrimes, Fault::Fraction]),
     }
     let numbers = || call.buffers.iter().filter(|(_, holds)| *holds != Holds::ReadFile).map(|&(number, _)| number);
     faults.extend(numbers().map(Fault::Short));
@@ -59,7 +60,12 @@ pub fn plant(case: &mut Case, fault: Fault, random: &mut Random) {
 fn plant_in_call(case: &mut Case, fault: Fault, random: &mut Random) {
     match fault {
         Fault::Pivot => plant_pivot(case, random),
+        Fault::Fraction => plant_without(case, random),
         Fault::Prime => case.p = draw_no_prime(random),
+        Fault::SecondPrime => case.q = draw_no_prime(random),
+        // what was planted as the second prime stays
+        Fault::EqualPrimes if is_prime(case.q) => case.q = case.p,
+        Fault::EqualPrimes => case.p = case.q,
         Fault::Size => case.n = random.one_of(&[0, 0, 1_025, 1_025, 1_026, 2_048, 65_536, 65_537, 0x8000_0000, u32::MAX]),
         Fault::Orders(which) => plant_order(&mut case.orders[which], random),
         Fault::OrderSums => plant_order_sums(case, random),
@@ -129,6 +135,15 @@ fn plant_pivot(case: &mut Case, random: &mut Random) {
     choose_pivots(p, shape, &mut case.buffer_mut(1).words, |k, m| if k == row { 0 } else { m });
 }
 
+/// Gives one to three places residues without a fraction: the first, the last, or any.
+fn plant_without(case: &mut Case, random: &mut Random) {
+    let primes = case.primes();
+    for _ in 0..random.one_of(&[1, 1, 2, 3]) {
+        let place = draw_row(case.n, random) as usize;
+        case.set_residues(place, primes.draw_without(random));
+    }
+}
+
 fn draw_row(n: u32, random: &mut Random) -> u32 {
     match random.below(3) {
         0 => 1,
@@ -142,7 +157,8 @@ fn plant_words(case: &mut Case, number: u32, random: &mut Random) {
     for _ in 0..random.one_of(&[1, 1, 2, 3]) {
         let row = draw_row(case.n, random);
         let place = used_place(case, number, row as usize, random);
-        case.buffer_mut(number).words[place] = not_below(case.p, random);
+        let prime = case.prime_of(case.buffer(number).holds);
+        case.buffer_mut(number).words[place] = not_below(prime, random);
     }
 }
 

@@ -13,6 +13,7 @@ use crate::trial::{compare, ended, only_accepted};
 
 mod drawn;
 mod files;
+mod fractions;
 mod identities;
 mod inverses;
 mod singular;
@@ -25,7 +26,7 @@ pub struct Law {
     run: fn(&mut Laws) -> Result<(), String>,
 }
 
-pub const LAWS: [Law; 34] = [
+pub const LAWS: [Law; 41] = [
     Law { name: "groupings", times: 180, run: Laws::groupings },
     Law { name: "product_by_sum", times: 200, run: Laws::product_by_sum },
     Law { name: "multiples", times: 200, run: Laws::multiples },
@@ -60,6 +61,13 @@ pub const LAWS: [Law; 34] = [
     Law { name: "file_lengths", times: 18, run: Laws::file_lengths },
     Law { name: "every_chain", times: files::PARTS, run: Laws::every_chain },
     Law { name: "every_word", times: 60, run: Laws::every_word },
+    Law { name: "small_fractions", times: fractions::SMALL_PAIRS, run: Laws::small_fractions },
+    Law { name: "middling_fractions", times: 6_000, run: Laws::middling_fractions },
+    Law { name: "large_fractions", times: 6_000, run: Laws::large_fractions },
+    Law { name: "extreme_fractions", times: fractions::EXTREME_PAIRS, run: Laws::extreme_fractions },
+    Law { name: "places_without", times: 70, run: Laws::places_without },
+    Law { name: "bad_residues", times: 60, run: Laws::bad_residues },
+    Law { name: "fault_sets", times: fractions::FAULT_SETS, run: Laws::fault_sets },
 ];
 
 impl Law {
@@ -243,7 +251,7 @@ impl Laws {
     fn case(&mut self, call: &Call, tables: &[&Factor], c: u32, column: &[u32]) -> Case {
         let (p, n) = (tables[0].p, tables[0].shape.n as u32);
         let orders = tables.iter().map(|table| table.orders()).collect();
-        let mut case = Case { p, n, orders, place: (1, 1), c, buffers: vec![], faults: vec![] };
+        let mut case = Case { p, q: 1, n, orders, place: (1, 1), c, buffers: vec![], faults: vec![] };
         for &(number, holds) in call.buffers {
             let words = match (number, holds) {
                 (4 | 5, _) => (0..case.needed(holds)).map(|_| self.random.word()).collect(),

@@ -1,8 +1,9 @@
 //! Every limit from both sides: each P, N and order around its bounds, and nothing else at fault.
 
-use crate::calls::{entry, read_file, write_file, Call, CALLS};
+use crate::calls::{entry, fractions, read_file, write_file, Call, CALLS};
 use crate::case::{Buffer, Case, Holds};
 use crate::layout::Shape;
+use crate::refusals::LARGEST_PRIME;
 use crate::row_file;
 use crate::tally::Tally;
 use crate::trial::trial;
@@ -31,6 +32,16 @@ fn primes(tally: &mut Tally) -> Result<(), String> {
         for call in [&entry::CALL, &read_file::CALL, &write_file::CALL] {
             check(call, zeros(call, p, 1, &[0, 0]), tally)?;
         }
+        two_primes(p, tally)?;
+    }
+    Ok(())
+}
+
+/// The number as the first prime, as the second, and as both.
+fn two_primes(p: u32, tally: &mut Tally) -> Result<(), String> {
+    let call = &fractions::CALL;
+    for (p, q) in [(p, 2), (2, p), (p, LARGEST_PRIME), (LARGEST_PRIME, p), (p, p)] {
+        check(call, Case { q, ..zeros(call, p, 1, &[]) }, tally)?;
     }
     Ok(())
 }
@@ -64,7 +75,7 @@ fn orders(call: &Call, tally: &mut Tally) -> Result<(), String> {
 }
 
 /// Zero matrices, or identities where a zero pivot is refused, and a zero column, in buffers that are long enough wherever N is at
-/// most 2,048 and the orders at most 10.
+/// most 2,048 and the orders at most 10; the second prime is 2.
 fn zeros(call: &Call, p: u32, n: u32, orders: &[u32]) -> Case {
     let orders: Vec<(u32, u32)> = orders.chunks(2).map(|pair| (pair[0], pair[1])).collect();
     let rows = n.min(2_048) as usize;
@@ -76,7 +87,7 @@ fn zeros(call: &Call, p: u32, n: u32, orders: &[u32]) -> Case {
         let count = match holds {
             Holds::Table(which) => table(capped(orders[which])),
             Holds::Joined => table(joined()),
-            Holds::Column => rows,
+            Holds::Column | Holds::Residues(_) | Holds::Signed => rows,
             Holds::Square => rows * rows,
             Holds::Work => rows * capped(orders[0]).1,
             Holds::WrittenFile => 4 * (5 + rows * (1 + row(capped(orders[0])))),
@@ -89,7 +100,7 @@ fn zeros(call: &Call, p: u32, n: u32, orders: &[u32]) -> Case {
         Buffer::new(number, holds, words)
     };
     let buffers = call.buffers.iter().map(buffer).collect();
-    let mut case = Case { p, n, orders, place: (1, 1), c: 0, buffers, faults: vec![] };
+    let mut case = Case { p, q: 2, n, orders, place: (1, 1), c: 0, buffers, faults: vec![] };
     if call.reads_file() {
         case.read_head();
     }

@@ -12,6 +12,7 @@ mod dense;
 mod eliminated;
 mod examples;
 mod faults;
+mod fractions;
 mod joined;
 mod laws;
 mod layout;
@@ -160,4 +161,5 @@ fn check_dense_program() {
             }
         }
     }
+    (0..200).for_each(|_| fractions::check_itself(&mut random));
 }

@@ -1,6 +1,6 @@
 //! What was reached: outcomes, traits of cases, and pairs of faults. A class that was never reached is a failure.
 
-use crate::calls::{Call, CALLS};
+use crate::calls::{Call, Number, CALLS};
 use crate::case::{Buffer, Case, Fault, Holds};
 use crate::faults;
 use crate::layout::Kind;
@@ -21,21 +21,25 @@ pub struct Tally {
 type Trait = (&'static str, fn(&Case) -> bool);
 
 /// Traits of accepted cases.
-const ACCEPTED: [Trait; 12] = [
+const ACCEPTED: [Trait; 7] = [
     ("N is 1", |case| case.n == 1),
     ("N is 2", |case| case.n == 2),
     ("N is 1,024", |case| case.n == 1024),
     ("P is 2", |case| case.p == 2),
     ("P is 2,147,483,647", |case| case.p == LARGEST_PRIME),
+    ("no surplus", |case| case.buffers.iter().all(|buffer| !has_surplus(case, buffer))),
+    ("surplus in every buffer", |case| {
+        case.buffers.iter().all(|buffer| has_surplus(case, buffer) || buffer.holds == Holds::ReadFile)
+    }),
+];
+
+/// Traits of accepted cases with orders.
+const ACCEPTED_ORDERS: [Trait; 5] = [
     ("r is 0, s is not", |case| case.orders[0].0 == 0 && case.orders[0].1 > 0),
     ("s is 0, r is not", |case| case.orders[0].1 == 0 && case.orders[0].0 > 0),
     ("r and s are 0", |case| case.orders[0] == (0, 0)),
     ("r is 8", |case| case.orders[0].0 == 8),
     ("s is 8", |case| case.orders[0].1 == 8),
-    ("no surplus", |case| case.buffers.iter().all(|buffer| !has_surplus(case, buffer))),
-    ("surplus in every buffer", |case| {
-        case.buffers.iter().all(|buffer| has_surplus(case, buffer) || buffer.holds == Holds::ReadFile)
-    }),
 ];
 
 /// Traits of accepted cases with a table.
@@ -77,6 +81,26 @@ const REFUSED_FILE: [TraitOfReply; 13] = [
     ("P is 0 in the file, bad word", |case, reply| reply.number == 5 && case.file_words()[0] == 0),
 ];
 
+/// Traits of refused cases with two primes.
+const REFUSED_PRIMES: [TraitOfReply; 6] = [
+    ("no fraction in the first place, N above 1", |case, reply| reply.number == 12 && reply.row == 1 && case.n > 1),
+    ("no fraction in the last place, N above 1", |case, reply| reply.number == 12 && reply.row == case.n && case.n > 1),
+    ("no fraction in a place between", |case, reply| reply.number == 12 && reply.row > 1 && reply.row < case.n),
+    ("within the bound a denominator divisible by the first prime", |case, reply| has_denominator(case, reply, case.p)),
+    ("within the bound a denominator divisible by the second prime", |case, reply| has_denominator(case, reply, case.q)),
+    ("equal numbers that are no primes", |case, reply| reply.number == 1 && case.p == case.q),
+];
+
+/// Whether the place without a fraction has a pair within the bound whose denominator this prime divides.
+fn has_denominator(case: &Case, reply: Reply, prime: u32) -> bool {
+    if reply.number != 12 {
+        return false;
+    }
+    let residues = case.residues().nth(reply.row as usize - 1).expect("a place of the columns");
+    let pair = case.primes().shortest(residues);
+    case.primes().is_within(pair) && pair.1 % prime as i64 == 0
+}
+
 /// Traits of accepted cases with two tables.
 const ACCEPTED_TWO: [Trait; 18] = [
     ("r1 + r2 is 8, both are not 0", |case| case.joined().r == 8 && lower(case) == (true, true)),
@@ -110,6 +134,18 @@ const ACCEPTED_REGULAR: [Trait; 6] = [
     ("a d is 0", |case| (1..=case.n as usize).any(|k| case.table().generator(Kind::D, k).residues[0] == 0)),
     ("r above s, s above 0, N above 3", |case| case.orders[0].0 > case.orders[0].1 && case.orders[0].1 > 0 && case.n > 3),
     ("s above r, r above 0, N above 3", |case| case.orders[0].1 > case.orders[0].0 && case.orders[0].0 > 0 && case.n > 3),
+];
+
+/// Traits of accepted cases with two primes.
+const ACCEPTED_PRIMES: [Trait; 8] = [
+    ("the second prime is 2", |case| case.q == 2),
+    ("the second prime is 2,147,483,647", |case| case.q == LARGEST_PRIME),
+    ("the primes are the largest two", |case| case.p.min(case.q) == 2_147_483_629),
+    ("the first prime is below 10, the second above 2³⁰", |case| case.p < 10 && case.q > 1 << 30),
+    ("the second prime is below 10, the first above 2³⁰", |case| case.q < 10 && case.p > 1 << 30),
+    ("a first residue not below the second prime", |case| case.residues().any(|(x, _)| x >= case.q)),
+    ("a second residue not below the first prime", |case| case.residues().any(|(_, y)| y >= case.p)),
+    ("surplus not below either prime", |case| has_high_surplus(case, 1) && has_high_surplus(case, 2)),
 ];
 
 /// Traits of accepted cases with a work buffer.
@@ -169,7 +205,7 @@ fn has_surplus(case: &Case, buffer: &Buffer) -> bool {
 
 fn has_high_surplus(case: &Case, number: u32) -> bool {
     let buffer = case.buffer(number);
-    buffer.words[case.needed(buffer.holds)..].iter().any(|&word| word >= case.p)
+    buffer.words[case.needed(buffer.holds)..].iter().any(|&word| word >= case.prime_of(buffer.holds))
 }
 
 impl Tally {
@@ -179,8 +215,8 @@ impl Tally {
         *self.outcomes.entry((call.name, reply.number, reply.buffer)).or_default() += 1;
         let lists = if reply.number == 0 { accepted(call) } else { vec![&REFUSED[..]] };
         lists.concat().iter().filter(|(_, holds)| holds(case)).for_each(|&(name, _)| self.count(call, name));
-        if reply.number != 0 && call.reads_file() {
-            let held = REFUSED_FILE.iter().filter(|(_, holds)| holds(case, reply));
+        if reply.number != 0 {
+            let held = refused(call).iter().filter(|(_, holds)| holds(case, reply));
             held.for_each(|&(name, _)| self.count(call, name));
         }
         if reply.number == 5 && reply.row == 1 {
@@ -259,9 +295,7 @@ impl Tally {
 fn traits_of(call: &Call) -> Vec<&'static str> {
     let mut names: Vec<&str> = accepted(call).concat().iter().chain(&REFUSED).map(|&(name, _)| name).collect();
     names.extend([BAD_FIRST, BAD_LAST]);
-    if call.reads_file() {
-        names.extend(REFUSED_FILE.map(|(name, _)| name));
-    }
+    names.extend(refused(call).iter().map(|&(name, _)| name));
     if call.pivots {
         names.extend([ZERO_FIRST, ZERO_LAST, ZERO_BETWEEN, ZERO_INVERTIBLE]);
     }
@@ -271,8 +305,21 @@ fn traits_of(call: &Call) -> Vec<&'static str> {
     names
 }
 
+/// The traits of refused cases that look at the reply.
+fn refused(call: &Call) -> &'static [TraitOfReply] {
+    match call.number {
+        Number::Prime => &REFUSED_PRIMES,
+        _ if call.reads_file() => &REFUSED_FILE,
+        _ => &[],
+    }
+}
+
 fn accepted(call: &Call) -> Vec<&'static [Trait]> {
-    let mut lists: Vec<&[Trait]> = vec![&ACCEPTED, if call.reads_file() { &ACCEPTED_FILE } else { &ACCEPTED_TABLE }];
+    if call.number == Number::Prime {
+        return vec![&ACCEPTED, &ACCEPTED_PRIMES];
+    }
+    let of_buffer: &[Trait] = if call.reads_file() { &ACCEPTED_FILE } else { &ACCEPTED_TABLE };
+    let mut lists: Vec<&[Trait]> = vec![&ACCEPTED, &ACCEPTED_ORDERS, of_buffer];
     if call.tables == 2 {
         lists.push(&ACCEPTED_TWO);
     }

@@ -76,7 +76,9 @@ fn difference(case: &Case, buffer: &Buffer, owed: &Answer, lent: &Lent) -> Optio
     let place = (0..expected.len()).find(|&place| expected[place] != found[place])?;
     let whose = owner(case, buffer, place);
     let unit = unit(buffer);
-    Some(format!("\n  buffer {} {unit} {place}{whose}: owed {}, came {}", buffer.number, expected[place], found[place]))
+    let shown = |word: u32| if buffer.holds == Holds::Signed { i64::from(word as i32) } else { word.into() };
+    let (owed, came) = (shown(expected[place]), shown(found[place]));
+    Some(format!("\n  buffer {} {unit} {place}{whose}: owed {owed}, came {came}", buffer.number))
 }
 
 fn unit(buffer: &Buffer) -> &'static str {
@@ -99,7 +101,7 @@ fn owner(case: &Case, buffer: &Buffer, place: usize) -> String {
             let (kind, row) = case.joined().owner(place);
             format!(" ({kind:?} of row {row})")
         }
-        Holds::Column => format!(" (row {})", place + 1),
+        Holds::Column | Holds::Residues(_) | Holds::Signed => format!(" (row {})", place + 1),
         Holds::Work => format!(" (v of row {})", place / case.shape(0).s + 1),
         Holds::WrittenFile | Holds::ReadFile => match (place / 4).checked_sub(row_file::HEAD) {
             None => " (head)".into(),
@@ -110,9 +112,8 @@ fn owner(case: &Case, buffer: &Buffer, place: usize) -> String {
 }
 
 fn describe(case: &Case) -> String {
-    let (i, j) = case.place;
-    let mut text =
-        format!("\n  P {} N {} orders {:?} i {i} j {j} c {} faults {:?}", case.p, case.n, case.orders, case.c, case.faults);
+    let Case { p, q, n, orders, place: (i, j), c, faults, .. } = case;
+    let mut text = format!("\n  P {p} second prime {q} N {n} orders {orders:?} i {i} j {j} c {c} faults {faults:?}");
     for buffer in &case.buffers {
         let shown: Vec<String> = buffer.words.iter().take(200).map(u32::to_string).collect();
         let note = if buffer.null {

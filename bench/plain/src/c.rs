@@ -211,6 +211,25 @@ pub unsafe extern "C" fn residues_write_file(
     done(crate::write_file(p, n, r, s, read(table, table_len), written(file, file_len)))
 }
 
+#[no_mangle]
+pub unsafe extern "C" fn residues_fractions(
+    p: u32,
+    q: u32,
+    n: u32,
+    first: *const u32,
+    first_len: usize,
+    second: *const u32,
+    second_len: usize,
+    numerators: *mut i32,
+    numerators_len: usize,
+    denominators: *mut u32,
+    denominators_len: usize,
+) -> u64 {
+    let (first, second) = (read(first, first_len), read(second, second_len));
+    let (numerators, denominators) = (written(numerators, numerators_len), written(denominators, denominators_len));
+    done(crate::fractions(p, q, n, first, second, numerators, denominators))
+}
+
 extern "C" {
     fn abort() -> !;
 }

@@ -29,9 +29,14 @@ pub fn shape(p: u32, n: u32, r: u32, s: u32) -> Result<Shape, Refusal> {
 /// The shape of a table whose orders belong to the given buffer.
 pub fn shape_in(buffer: u32, p: u32, n: u32, r: u32, s: u32) -> Result<Shape, Refusal> {
     refuse(!is_prime(p), 1, 0, 0)?;
-    refuse(!(1..=LARGEST_SIZE as u32).contains(&n), 2, 0, 0)?;
+    let n = size(n)?;
     refuse(is_above(r) || is_above(s), 3, buffer, 0)?;
-    Ok(Shape { p, n: n as usize, r: r as usize, s: s as usize })
+    Ok(Shape { p, n, r: r as usize, s: s as usize })
+}
+
+pub fn size(n: u32) -> Result<usize, Refusal> {
+    refuse(!(1..=LARGEST_SIZE as u32).contains(&n), 2, 0, 0)?;
+    Ok(n as usize)
 }
 
 /// The shapes of two tables and of the result that joins them, all buffers checked.
@@ -73,7 +78,11 @@ pub fn table(buffer: u32, shape: Shape, words: &[u32]) -> Result<(), Refusal> {
 
 /// A column's n words.
 pub fn column(buffer: u32, shape: Shape, words: &[u32]) -> Result<(), Refusal> {
-    first_bad(buffer, words[..shape.n].iter().position(|&x| x >= shape.p))
+    residues(buffer, shape.p, &words[..shape.n])
+}
+
+pub fn residues(buffer: u32, p: u32, words: &[u32]) -> Result<(), Refusal> {
+    first_bad(buffer, words.iter().position(|&x| x >= p))
 }
 
 /// The first row, from 0, with a word that is no residue.

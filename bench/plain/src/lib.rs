@@ -1,4 +1,5 @@
-//! Linear algebra modulo a prime on matrices given by generators, by plain sweeps: what the library is measured against.
+//! Linear algebra modulo a prime on matrices given by generators, by plain sweeps, and fractions from residues under two primes:
+//! what the library is measured against.
 //! Every call takes the library's numbers and buffers and gives its answers and refusals.
 #![no_std]
 #![deny(unsafe_code)]
@@ -10,6 +11,7 @@ mod c;
 mod checks;
 mod entry;
 mod file;
+mod fractions;
 mod inverse;
 mod multiple;
 mod pivot;
@@ -25,6 +27,7 @@ pub use apply::{apply, apply_transpose};
 pub use checks::Refusal;
 pub use entry::{entry, matrix};
 pub use file::{read_file, write_file};
+pub use fractions::fractions;
 pub use inverse::inverse;
 pub use multiple::multiple;
 pub use product::product;

@@ -3,12 +3,14 @@
 
 use crate::case::{Case, Holds};
 use crate::dense::Table;
+use crate::fractions::Fraction;
 use crate::lent::Lent;
 use crate::refusals::{Check, Reply};
 
 pub mod apply;
 pub mod apply_transpose;
 pub mod entry;
+pub mod fractions;
 pub mod inverse;
 pub mod matrix;
 pub mod multiple;
@@ -19,7 +21,7 @@ pub mod sum;
 pub mod transpose;
 pub mod write_file;
 
-pub const CALLS: [&Call; 12] = [
+pub const CALLS: [&Call; 13] = [
     &entry::CALL,
     &matrix::CALL,
     &apply::CALL,
@@ -32,6 +34,7 @@ pub const CALLS: [&Call; 12] = [
     &inverse::CALL,
     &read_file::CALL,
     &write_file::CALL,
+    &fractions::CALL,
 ];
 
 /// What a call takes beside P, N and the orders.
@@ -42,6 +45,8 @@ pub enum Number {
     Place,
     /// c
     Factor,
+    /// the second prime
+    Prime,
 }
 
 /// A call of the library, and all that is owed about it.
@@ -93,6 +98,17 @@ impl Answer {
     /// The result, buffer 5.
     pub fn result(words: Vec<u32>) -> Answer {
         Answer { reply: Reply::accepted(0), written: vec![(5, words)] }
+    }
+
+    /// The numerators, buffer 4, negative ones in two's complement, and the denominators, buffer 5; or the first place without.
+    pub fn fractions(found: &[Option<Fraction>]) -> Answer {
+        if let Some(place) = found.iter().position(Option::is_none) {
+            return Answer::refused(Reply::no_fraction(place + 1));
+        }
+        let numerator = |&(numerator, _): &Fraction| i32::try_from(numerator).expect("B is below 2³¹") as u32;
+        let denominator = |&(_, denominator): &Fraction| u32::try_from(denominator).expect("a denominator is above 0");
+        let (numerators, denominators) = (found.iter().flatten().map(numerator), found.iter().flatten().map(denominator));
+        Answer { written: vec![(4, numerators.collect()), (5, denominators.collect())], ..Answer::value(0) }
     }
 
     /// Nothing is written.
