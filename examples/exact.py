@@ -1,4 +1,4 @@
-"""Solves one problem in whole numbers exactly: under two primes, then as fractions, which are checked in whole numbers."""
+"""Solves one problem in whole numbers exactly: under two primes, then as fractions, which are checked without a prime."""
 
 import sys
 

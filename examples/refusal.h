@@ -12,11 +12,11 @@ static inline int accepted(const char *call, uint64_t reply)
 {
     static const char *const causes[] = {
         "accepted",
-        "p is no prime from 2 to 2147483647",
+        "p, or p1 or p2, is no prime from 2 to 2147483647",
         "n is not 1 to 1024",
         "an order is above 8",
         "a buffer is too short",
-        "a word is not below p",
+        "a word is not below its prime",
         "the orders add up to more than 8",
         "a leading corner is singular",
         "i or j is not 1 to n",

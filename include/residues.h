@@ -157,7 +157,8 @@ uint64_t residues_write_file(uint32_t p, uint32_t n, uint32_t r, uint32_t s,
  * 2147483629, give the largest B, 1518500242. Reads first and second, which may be the same buffer. Refuses 1, 11, 2, 4, 5, 12:
  * 1 where p1 or p2 is no prime from 2 to 2147483647; 4 names 1 (first), 2 (second), 4 (numerators) or 5 (denominators); 5 names 1,
  * a word of first not below p1, or 2, one of second not below p2, and the first such place; 12 where some place has no such
- * fraction, beside it 0 and the first such place, from 1. */
+ * fraction, beside it 0 and the first such place, from 1. A fraction is a problem's answer only where that answer is within the
+ * bound; else 12 comes, or another fraction: put it into the problem's own equations. */
 uint64_t residues_fractions(uint32_t p1, uint32_t p2, uint32_t n,
                             const uint32_t *first, size_t first_len, const uint32_t *second, size_t second_len,
                             int32_t *numerators, size_t numerators_len, uint32_t *denominators, size_t denominators_len);

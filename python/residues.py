@@ -29,11 +29,11 @@ HEAD_BYTES = 20
 # The names of a refusal's number, as in the header, and what they mean.
 CAUSES = (
     ("OK", "accepted"),
-    ("BAD_PRIME", "p is no prime from 2 to 2147483647"),
+    ("BAD_PRIME", "p, or p1 or p2, is no prime from 2 to 2147483647"),
     ("BAD_SIZE", "n is not 1 to 1024"),
     ("BAD_ORDER", "an order is above 8"),
     ("SHORT_BUFFER", "a buffer is too short"),
-    ("BAD_WORD", "a word is not below p"),
+    ("BAD_WORD", "a word is not below its prime"),
     ("BAD_ORDER_SUM", "the orders add up to more than 8"),
     ("ZERO_PIVOT", "a leading corner is singular"),
     ("BAD_PLACE", "i or j is not 1 to n"),
@@ -263,7 +263,8 @@ def write_file(p, n, r, s, table):
 
 def fractions(p1, p2, xs, ys):
     """The fractions that have the residues xs under p1 and ys under p2, two different primes, as fractions.Fraction, place by place.
-    xs and ys have one length."""
+    xs and ys have one length. Each is the only one within the bound (see residues.h), which is not always the problem's answer: check it
+    in the problem's own equations. Refused 12 names the first place without one."""
     numbers = _numbers(p1=p1, p2=p2)
     first, second = _words("xs", xs), _words("ys", ys)
     n = len(first)

@@ -1,5 +1,5 @@
--- What the call promises, as statements about FractionCall.antt. Quoted are the request and, of every call, the proposal and the scope paper.
--- The proofs are in FractionPromisesProof.antt, under the same names in small letters.
+-- What the call promises, as statements about FractionCall.antt. Quoted are the request and, of every call, the proposal and the
+-- scope paper. The proofs are `largest-bound`, `bound-fits`, `at-most-one` and `promises` in FractionPromisesProof.antt.
 use mathlib.Core.Bool.{false}
 use mathlib.Core.Logic.{_≢_, _↔_}
 use mathlib.Core.Path.{_≡_}

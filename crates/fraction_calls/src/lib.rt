@@ -1,4 +1,5 @@
-// The call that turns two columns of residues into fractions. A first pass looks for a place without a fraction; a second one writes, once there is none.
+// The call that turns two columns of residues into fractions. A first pass looks for a place without a fraction; a second one
+// writes, once there is none.
 // No contract of a public function asks anything of the caller.
 use checks::Reply;
 use fractions::TwoPrimes;

@@ -1,4 +1,5 @@
--- `fraction_calls::put_fractions` meets its contract. The loop's invariant: the first i words of both buffers are written, and the rest is as it was.
+-- `fraction_calls::put_fractions` meets its contract. The loop's invariant: the first i words of both buffers are written, and the
+-- rest is as it was.
 use mathlib.Core.Path.{_≡_, refl, _∙_}
 use mathlib.Core.List.{List, _++_}
 use Prim.Native.Nat.{ℕ, _-_, _≤_, zero-le}
