@@ -2,7 +2,7 @@
 ghost use mathlib.Core.Path.{_≡_};
 ghost use mathlib.Core.List.{List, []};
 ghost use Prim.Native.Nat.{ℕ, _≤_};
-ghost use Rattle.table.specs.Limits.{standard};
+ghost use Rattle.table.specs.Limits.{standard, upTo};
 ghost use Rattle.table.specs.Words.{table, gap, width};
 ghost use Rattle.table.specs.Replies.{reply, packed, accept, answer, badPrime, badSize, badOrder};
 ghost use Rattle.table.specs.Calls.{sizeChecks};
@@ -61,10 +61,10 @@ pub fn bad_prime(p: u32) -> bool
     }
 }
 
-pub fn bad_size(n: u32) -> bool
-    ensures { λ b. ⌜ b ≡ badSize (standard .size) n ⌝ }
+pub fn bad_size(most: u32, n: u32) -> bool
+    ensures { λ b. ⌜ b ≡ badSize most n ⌝ }
 {
-    if n < 1 { true } else { 1024 < n }
+    if n < 1 { true } else { most < n }
 }
 
 pub fn bad_order(r: u32, s: u32) -> bool
@@ -73,12 +73,12 @@ pub fn bad_order(r: u32, s: u32) -> bool
     if 8 < r { true } else { 8 < s }
 }
 
-// The first three checks of every call: prime, size and the first table's orders.
-pub fn numbers(p: u32, n: u32, r: u32, s: u32) -> Reply
-    ensures { λ y. ⌜ ((t : List ℕ) → reply (y .number) (y .buffer) (y .row) (y .value) ≡ answer (sizeChecks p n standard (table r s t) []) (accept 0)) ⌝ }
+// The first three checks of every call: prime, size and the first table's orders. Sizes may be at most `most`.
+pub fn numbers_up_to(most: u32, p: u32, n: u32, r: u32, s: u32) -> Reply
+    ensures { λ y. ⌜ ((t : List ℕ) → reply (y .number) (y .buffer) (y .row) (y .value) ≡ answer (sizeChecks p n (upTo most) (table r s t) []) (accept 0)) ⌝ }
 {
     let prime = bad_prime(p);
-    let size = bad_size(n);
+    let size = bad_size(most, n);
     let order = bad_order(r, s);
     if prime {
         return refuse(1, 0, 0);
@@ -90,6 +90,13 @@ pub fn numbers(p: u32, n: u32, r: u32, s: u32) -> Reply
         return refuse(3, 1, 0);
     }
     accept(0)
+}
+
+// The same with the limit of every call of the scope.
+pub fn numbers(p: u32, n: u32, r: u32, s: u32) -> Reply
+    ensures { λ y. ⌜ ((t : List ℕ) → reply (y .number) (y .buffer) (y .row) (y .value) ≡ answer (sizeChecks p n standard (table r s t) []) (accept 0)) ⌝ }
+{
+    numbers_up_to(1024, p, n, r, s)
 }
 
 // ---- Rows.

@@ -48,7 +48,7 @@ pub fn check_read(f: &[u8], room: usize) -> Reply
     if checks::bad_prime(p) {
         return checks::refuse(1, 0, 0);
     }
-    if checks::bad_size(n) {
+    if checks::bad_size(1024, n) {
         return checks::refuse(2, 0, 0);
     }
     if checks::bad_order(r, s) {

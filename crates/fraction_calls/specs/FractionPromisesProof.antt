@@ -10,10 +10,10 @@ use lib.IntN.{ℤ, pos}
 use lib.ListN.{length, drop, getD}
 use borrow.Author.Tests.{ltb-false, le-ltb, lt-ltb, eqb-true, eqb-false, eq-eqb, ne-eqb}
 use Rattle.algebra.specs.Generators.{pick}
-use Rattle.lists.specs.ListLaws.{or-false, length-tabulate, getD-front, tabulate-same, first-with, none-with, first-le}
+use Rattle.lists.specs.ListLaws.{or-false, length-tabulate, getD-front, tabulate-same, first-with, none-with, first-le, same-first}
 use Rattle.table.specs.Limits.{standard}
 use Rattle.table.specs.Words.{firstBadPlace, SameColumn}
-use Rattle.table.specs.WordLaws.{place-below, place-good, place-le, place-same, same-first}
+use Rattle.table.specs.WordLaws.{place-below, place-good, place-le, place-same}
 use Rattle.table.specs.Replies.{Reply, Check, check, Accepted, NoFault, causeAt, accept, refuse, answer, after, short, badPrime, badSize}
 use Rattle.table.specs.Calls.{checkShort}
 use Rattle.table.specs.CallLaws.{AllClear, other-number, passed, open-checks, all-clear, value-is, answer-append, none-row}

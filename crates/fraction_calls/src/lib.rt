@@ -35,7 +35,7 @@ fn check_numbers(p: u32, q: u32, n: u32) -> Reply
     if p == q {
         return checks::refuse(11, 0, 0);
     }
-    if checks::bad_size(n) {
+    if checks::bad_size(1024, n) {
         return checks::refuse(2, 0, 0);
     }
     checks::accept(0)

@@ -96,6 +96,13 @@ unfolding firstOf
 none-first zero f at e = refl
 none-first (suc n) f at e = rw (e at (omega arith) (omega arith), firstOf) (none-first n f (suc at) (λ j a b. e j (omega arith) (omega arith)))
 
+-- searches by equal tests
+pub same-first : (n : ℕ) (f g : ℕ → Bool) (at : ℕ) → ((j : ℕ) → at ≤ j → j < at + n → f j ≡ g j) → firstOf n f at ≡ firstOf n g at
+unfolding firstOf
+same-first zero f g at e = refl
+same-first (suc n) f g at e = ap₂ (λ (b : Bool) (m : ℕ). elim b as (λ (x : Bool). ℕ) [ true ↦ suc at | false ↦ m ])
+    (e at (omega arith) (omega arith)) (same-first n f g (suc at) (λ j a b. e j (omega arith) (omega arith)))
+
 pub or-none : (a : Bool) → (a || false) ≡ a
 or-none true = refl
 or-none false = refl

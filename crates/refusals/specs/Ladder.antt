@@ -9,7 +9,7 @@ use lib.Dec.{ltb, leb}
 use lib.ListN.{length}
 use borrow.Author.Tests.{leb-true, lt-ltb, le-ltb}
 use Rattle.algebra.specs.Generators.{pick}
-use Rattle.table.specs.Limits.{standard}
+use Rattle.table.specs.Limits.{standard, upTo}
 use Rattle.table.specs.Words.{Table}
 use Rattle.table.specs.Replies.{Reply, Check, check, accept, answer, NoFault, badPrime, badSize, badOrder, short}
 use Rattle.table.specs.Calls.{sizeChecks}
@@ -49,7 +49,22 @@ module _ (cs : List Check) (y : Reply) (e : y ≡ answer cs (accept 0)) where
     pub first-pass : (ds : List Check) (v : Reply) {w : Reply} → w ≡ answer ds v → w ≡ answer (cs ++ ds) v
     first-pass ds v = clear-pass cs ds v first-clear
 
--- y is the answer of the first three checks
+-- y is the answer of the first three checks, where N may be at most `most`
+module _ (most P N : ℕ) (A : Table) (y : Reply) (e : y ≡ answer (sizeChecks P N (upTo most) A []) (accept 0)) where
+  pub sizes-stop : y .number ≢ 0 → (cs : List Check) (v : Reply) → y ≡ answer (sizeChecks P N (upTo most) A cs) v
+  sizes-stop = first-stop (sizeChecks P N (upTo most) A []) y e
+
+  module _ (ok : y .number ≡ 0) where
+    pub sizes-clear : NoFault (sizeChecks P N (upTo most) A [])
+    sizes-clear = first-clear (sizeChecks P N (upTo most) A []) y e refl ok
+
+    pub sizes-accept : y ≡ accept 0
+    sizes-accept = first-accept (sizeChecks P N (upTo most) A []) y e refl ok
+
+    pub sizes-pass : {w : Reply} (cs : List Check) (v : Reply) → w ≡ answer cs v → w ≡ answer (sizeChecks P N (upTo most) A cs) v
+    sizes-pass cs v = first-pass (sizeChecks P N (upTo most) A []) y e refl ok cs v
+
+-- the same with the limit of every call of the scope
 abbrev pub Numbers : (P N : ℕ) → Table → Reply → Type 0
 Numbers P N A y = y ≡ answer (sizeChecks P N standard A []) (accept 0)
 
@@ -61,17 +76,17 @@ pub record Clear (P N : ℕ) (A : Table) : Type 0 where
 
 module _ (P N : ℕ) (A : Table) (y : Reply) (e : Numbers P N A y) where
   pub numbers-stop : y .number ≢ 0 → (cs : List Check) (v : Reply) → y ≡ answer (sizeChecks P N standard A cs) v
-  numbers-stop = first-stop (sizeChecks P N standard A []) y e
+  numbers-stop = sizes-stop 1024 P N A y e
 
   module _ (ok : y .number ≡ 0) where
     pub numbers-clear : Clear P N A
-    numbers-clear = let z = first-clear (sizeChecks P N standard A []) y e refl ok in record { prime = z 0; size = z 1; orders = z 2 }
+    numbers-clear = let z = sizes-clear 1024 P N A y e ok in record { prime = z 0; size = z 1; orders = z 2 }
 
     pub numbers-accept : y ≡ accept 0
-    numbers-accept = first-accept (sizeChecks P N standard A []) y e refl ok
+    numbers-accept = sizes-accept 1024 P N A y e ok
 
     pub numbers-pass : {w : Reply} (cs : List Check) (v : Reply) → w ≡ answer cs v → w ≡ answer (sizeChecks P N standard A cs) v
-    numbers-pass cs v = first-pass (sizeChecks P N standard A []) y e refl ok cs v
+    numbers-pass cs v = sizes-pass 1024 P N A y e ok cs v
 
 -- orders, and the size with them, are within the limits
 pub order-within : (r s : ℕ) → badOrder (standard .order) r s ≡ false → (r ≤ 8) × (s ≤ 8)
@@ -79,6 +94,12 @@ order-within r s e = let o = both-hold (leb r (standard .order)) (leb s (standar
 
 pub within : (P N : ℕ) (A : Table) → Clear P N A → (N ≤ 1024) × (A .lower ≤ 8) × (A .upper ≤ 8)
 within P N A z = let o = order-within (A .lower) (A .upper) (z .orders) in (leb-true N 1024 (both-hold (leb 1 N) (leb N (standard .size)) (z .size) .1), o .0, o .1)
+
+pub sizes-within : (most P N : ℕ) (A : Table) (y : Reply) → y ≡ answer (sizeChecks P N (upTo most) A []) (accept 0) → y .number ≡ 0
+    → (N ≤ most) × (A .lower ≤ 8) × (A .upper ≤ 8)
+sizes-within most P N A y e ok =
+    let z = sizes-clear most P N A y e ok in let o = order-within (A .lower) (A .upper) (z 2) in
+    (leb-true N most (both-hold (leb 1 N) (leb N most) (z 1) .1), o .0, o .1)
 
 -- The causes as code tests them: a table of n rows of w words, a buffer of given length, a search's row.
 pub table-short : (t : List ℕ) (n w W : ℕ) → w ≡ W → length t < n * w → short t (n * W) ≡ true

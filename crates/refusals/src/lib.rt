@@ -1,12 +1,13 @@
-// The checks of transpose, multiple and solve, one after the other in the order of the refusal table. `room` is the length of the result.
+// The checks of transpose, multiple and the solving calls, one after the other in the order of the refusal table. `room` is the length of the result.
 use checks::Reply;
 ghost use mathlib.Core.List.{List};
 ghost use mathlib.Core.Path.{_≡_};
-ghost use Prim.Native.Nat.{ℕ};
+ghost use Prim.Native.Nat.{ℕ, _≤_};
 ghost use lib.ListN.{length};
+ghost use Rattle.table.specs.Limits.{upTo};
 ghost use Rattle.table.specs.Words.{table as tab};
 ghost use Rattle.table.specs.Replies.{reply, accept, answer};
-ghost use Rattle.table.specs.Calls.{transposeChecks, multipleChecks, solveEarlier};
+ghost use Rattle.table.specs.Calls.{transposeChecks, multipleChecks, systemChecks, solveEarlier};
 
 pub fn check_transpose(p: u32, n: u32, r: u32, s: u32, t: &[u32], room: usize) -> Reply
     ensures { λ y. ⌜ ((d : List ℕ) → length d ≡ room → reply (y .number) (y .buffer) (y .row) (y .value) ≡ answer (transposeChecks p n (tab r s (now (t .entry))) d) (accept 0)) ⌝ }
@@ -55,21 +56,24 @@ pub fn check_multiple(p: u32, n: u32, r: u32, s: u32, c: u32, t: &[u32], room: u
     y
 }
 
-// ---- Solving: the checks before the pivots. `work` is the length of the work buffer.
+// ---- Solving: the checks before the pivots. N may be at most `most`; `work` is the length of the work buffer, of which `need` words are asked.
 
-pub fn check_solve(
+pub fn check_system(
     p: u32,
     n: u32,
     r: u32,
     s: u32,
+    most: u32,
     t: &[u32],
     x: &[u32],
     work: usize,
+    need: usize,
     room: usize,
 ) -> Reply
-    ensures { λ y. ⌜ ((v d : List ℕ) → length v ≡ work → length d ≡ room → reply (y .number) (y .buffer) (y .row) (y .value) ≡ answer (solveEarlier p n (tab r s (now (t .entry))) (now (x .entry)) v d) (accept 0)) ⌝ }
+    requires { ⌜ most ≤ 1024 ⌝ }
+    ensures { λ y. ⌜ ((v d : List ℕ) → length v ≡ work → length d ≡ room → reply (y .number) (y .buffer) (y .row) (y .value) ≡ answer (systemChecks p n (tab r s (now (t .entry))) (upTo most) need (now (x .entry)) v d) (accept 0)) ⌝ }
 {
-    let y = checks::numbers(p, n, r, s);
+    let y = checks::numbers_up_to(most, p, n, r, s);
     if y.number != 0 {
         return y;
     }
@@ -80,7 +84,7 @@ pub fn check_solve(
     if x.len() < rows {
         return checks::refuse(4, 3, 0);
     }
-    if work < rows * (s as usize) {
+    if work < need {
         return checks::refuse(4, 4, 0);
     }
     if room < rows {
@@ -95,4 +99,20 @@ pub fn check_solve(
         return checks::refuse(5, 3, bad as u32);
     }
     y
+}
+
+pub fn check_solve(
+    p: u32,
+    n: u32,
+    r: u32,
+    s: u32,
+    t: &[u32],
+    x: &[u32],
+    work: usize,
+    room: usize,
+) -> Reply
+    ensures { λ y. ⌜ ((v d : List ℕ) → length v ≡ work → length d ≡ room → reply (y .number) (y .buffer) (y .row) (y .value) ≡ answer (solveEarlier p n (tab r s (now (t .entry))) (now (x .entry)) v d) (accept 0)) ⌝ }
+{
+    let need = n as usize * s as usize;
+    check_system(p, n, r, s, 1024, t, x, work, need, room)
 }

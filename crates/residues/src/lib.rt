@@ -2,6 +2,7 @@
 ghost use mathlib.Core.Path.{_≡_};
 ghost use Rattle.table.specs.Words.{table as tab};
 ghost use Rattle.table.specs.Replies.{packed};
+ghost use Rattle.dense.specs.DenseCall.{denseReply, denseAfter, squareAfter};
 ghost use Rattle.fraction_calls.specs.FractionCall.{fractionsReply, numeratorsAfter, denominatorsAfter};
 ghost use Rattle.table.specs.Calls.{entryReply, matrixReply, matrixAfter, applyReply, applyAfter, applyTransposedAfter, transposeReply, transposeAfter, multipleReply, multipleAfter, sumReply, sumAfter, productReply, productAfter, solveReply, solveAfter, workAfter, inverseReply, inverseAfter, readReply, readAfter, writeReply, writeAfter};
 
@@ -150,6 +151,24 @@ pub extern "C" fn residues_solve(
     ensures { λ v. ⌜ now (result .exit) ≡ solveAfter p n (tab r s (now (table .entry))) (now (column .entry)) (now (work .entry)) (now (result .entry)) ⌝ }
 {
     checks::pack(solutions::solve(p, n, r, s, table, column, work, result))
+}
+
+#[no_mangle]
+pub extern "C" fn residues_solve_dense(
+    p: u32,
+    n: u32,
+    r: u32,
+    s: u32,
+    table: &[u32],
+    column: &[u32],
+    square: &mut [u32],
+    result: &mut [u32],
+) -> u64
+    ensures { λ v. ⌜ v ≡ packed (denseReply p n (tab r s (now (table .entry))) (now (column .entry)) (now (square .entry)) (now (result .entry))) ⌝ }
+    ensures { λ v. ⌜ now (square .exit) ≡ squareAfter p n (tab r s (now (table .entry))) (now (column .entry)) (now (square .entry)) (now (result .entry)) ⌝ }
+    ensures { λ v. ⌜ now (result .exit) ≡ denseAfter p n (tab r s (now (table .entry))) (now (column .entry)) (now (square .entry)) (now (result .entry)) ⌝ }
+{
+    checks::pack(dense_calls::solve_dense(p, n, r, s, table, column, square, result))
 }
 
 #[no_mangle]

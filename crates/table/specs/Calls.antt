@@ -78,16 +78,20 @@ module _ (P N : ℕ) where
         ∷ checkWords 1 A
         ∷ [])
 
-    -- solve and inverse: the checks before the pivots, which for inverse are those of transpose, then the pivots
-    abbrev pub solveEarlier : (x v d : List ℕ) → List Check
-    solveEarlier x v d = sizeChecks standard A (
+    -- what a solving call checks before it looks at pivots, under the limits L and with `need` words of buffer 4
+    abbrev pub systemChecks : (L : Limits) (need : ℕ) (x v d : List ℕ) → List Check
+    systemChecks L need x v d = sizeChecks L A (
         checkShort 1 (A .words) (tableLength N A)
         ∷ checkShort 3 x N
-        ∷ checkShort 4 v (N * A .upper)
+        ∷ checkShort 4 v need
         ∷ checkShort 5 d N
         ∷ checkWords 1 A
         ∷ checkColumn x
         ∷ [])
+
+    -- solve and inverse: the checks before the pivots, which for inverse are those of transpose, then the pivots
+    abbrev pub solveEarlier : (x v d : List ℕ) → List Check
+    solveEarlier x v d = systemChecks standard (N * A .upper) x v d
 
     abbrev pub solveChecks : (x v d : List ℕ) → List Check
     solveChecks x v d = solveEarlier x v d ++ (checkPivots A ∷ [])

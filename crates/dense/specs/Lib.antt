@@ -1,0 +1,4 @@
+pub mod DenseCall
+pub mod DenseTheory
+pub mod DenseTheoryProof
+pub mod DenseExamples

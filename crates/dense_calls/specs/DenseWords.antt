@@ -1,0 +1,77 @@
+-- What the square, the private column and the result hold on the way.
+use mathlib.Core.List.{List, _++_}
+use mathlib.Core.Path.{_≡_, sym, ap, ap₂, _∙_}
+use Prim.Native.Nat.{ℕ, _+_, _-_, _*_, _<_, _≤_}
+use native.Mathlib.Nat.{mul-le-mul-right}
+use native.Mathlib.Omega.{arith}
+use lib.ListN.{length, getD, drop}
+use lib.Seq.{drop-at}
+use borrow.Rule.Slice.PartMut.{midOf, putMid, mid-len, post-is}
+use Rattle.field.specs.Residue.{residues, val, val-small, val-below}
+use Rattle.lists.specs.Lists.{tabulate}
+use Rattle.lists.specs.ListLaws.{length-tabulate, length-rows, getD-tabulate, getD-here, getD-rows-more, tabulate-same}
+use Rattle.table.specs.Words.{Table, matrixOf}
+use Rattle.table.specs.Results.{column, matrixW}
+use Rattle.calls.specs.Finish.{written-length}
+use Rattle.elimination.specs.Elimination.{solution}
+use Rattle.dense_steps.specs.Squares.{Holds, HoldsColumn}
+use Rattle.lists.specs.Parts.{part-word}
+use Rattle.dense.specs.DenseCall.{denseW}
+
+module _ (P n : ℕ) (A : Table) (pos : 0 < P) where
+  -- sq is the square with the matrix written to it
+  module _ (v sq : List ℕ) (room : n * n ≤ length v) (e : sq ≡ matrixW P n A ++ drop (n * n) v) where
+    abbrev lent : List ℕ
+    lent = midOf 0 (n * n - 0) sq
+
+    matrix-length : length (matrixW P n A) ≡ n * n
+    unfolding matrixW
+    matrix-length = length-rows _ n (λ k. length-tabulate n _) n
+
+    long : length sq ≡ length v
+    long = written-length (matrixW P n A) v sq (n * n) matrix-length room e
+
+    pub square-long : length lent ≡ n * n
+    square-long = mid-len 0 (n * n) sq (omega (arith, long)) ∙ omega arith
+
+    pub square-holds : Holds P n 0 n lent (matrixOf P n A)
+    unfolding matrixW
+    square-holds i j hi hj =
+        let p = mul-le-mul-right n hi in
+        let z : 0 + (i * n + (0 + j)) ≡ i * n + j = omega arith in
+        part-word 0 (n * n - 0) sq (i * n + (0 + j)) (omega arith) ∙ ap (λ (m : ℕ). getD sq m 0) z ∙ ap (λ (l : List ℕ). getD l (i * n + j) 0) e
+        ∙ getD-rows-more (λ i. tabulate n (λ j. val P (matrixOf P n A i j))) n (λ k. length-tabulate n _) n i j (drop (n * n) v) hi hj ∙ getD-tabulate n (λ j. val P (matrixOf P n A i j)) j hj
+
+    pub square-below : (i j : ℕ) → i < n → j < n → getD lent (i * n + j) 0 < P
+    square-below i j hi hj =
+        let z : i * n + j ≡ i * n + (0 + j) = omega arith in
+        omega (arith, val-below P pos (matrixOf P n A i j), ap (λ (m : ℕ). getD lent m 0) z ∙ square-holds i j hi hj)
+
+    -- the square cleared
+    pub square-leaves : {y : List ℕ} → y ≡ tabulate (length lent) (λ e. 0) → putMid 0 (n * n - 0) sq y ≡ tabulate (n * n) (λ e. 0) ++ drop (n * n) v
+    square-leaves {y} q =
+        ap₂ _++_ (q ∙ ap (λ (m : ℕ). tabulate m (λ e. 0)) square-long)
+        (post-is 0 (n * n) sq (omega arith) ∙ ap (drop (n * n)) e ∙ drop-at (matrixW P n A) (drop (n * n) v) (n * n) matrix-length)
+
+  -- x is the private column with the given one copied to it
+  module _ (b x rest : List ℕ) (room : n ≤ length b) (below : (k : ℕ) → k < n → getD b k 0 < P) (e : x ≡ tabulate (length (midOf 0 (n - 0) b)) (λ j. getD (midOf 0 (n - 0) b) j 0) ++ rest) where
+    copied : (k : ℕ) → k < n → getD x k 0 ≡ getD b k 0
+    copied k h =
+        let l : length (midOf 0 (n - 0) b) ≡ n - 0 = mid-len 0 n b room in
+        let z : 0 + k ≡ k = omega arith in
+        ap (λ (y : List ℕ). getD y k 0) e ∙ getD-here (length (midOf 0 (n - 0) b)) _ rest k (omega arith) ∙ part-word 0 (n - 0) b k (omega arith) ∙ ap (λ (m : ℕ). getD b m 0) z
+
+    pub column-holds : HoldsColumn P n x (column P b)
+    column-holds k h = copied k h ∙ sym (val-small P pos (getD b k 0) (below k h))
+
+    pub column-below : (k : ℕ) → k < n → getD x k 0 < P
+    column-below k h = omega (arith, copied k h, below k h)
+
+  -- the solution copied from the private column to the result
+  pub result-leaves : (b x d : List ℕ) {out : List ℕ} → n ≤ length x → HoldsColumn P n x (solution (residues P) n (matrixOf P n A) (column P b))
+      → out ≡ tabulate (length (midOf 0 (n - 0) x)) (λ j. getD (midOf 0 (n - 0) x) j 0) ++ drop (length (midOf 0 (n - 0) x)) d → out ≡ denseW P n A b ++ drop n d
+  unfolding denseW
+  result-leaves b x d room h e =
+      let l : length (midOf 0 (n - 0) x) ≡ n = mid-len 0 n x room ∙ omega arith in
+      e ∙ ap (λ (m : ℕ). tabulate m (λ j. getD (midOf 0 (n - 0) x) j 0) ++ drop m d) l
+      ∙ ap (λ (y : List ℕ). y ++ drop n d) (tabulate-same n _ _ (λ k q. let z : 0 + k ≡ k = omega arith in part-word 0 (n - 0) x k (omega arith) ∙ ap (λ (m : ℕ). getD x m 0) z ∙ h k q))
