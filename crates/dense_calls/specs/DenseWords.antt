@@ -7,14 +7,16 @@ use native.Mathlib.Omega.{arith}
 use lib.ListN.{length, getD, drop}
 use lib.Seq.{drop-at}
 use borrow.Rule.Slice.PartMut.{midOf, putMid, mid-len, post-is}
-use Rattle.field.specs.Residue.{residues, val, val-small, val-below}
+use Rattle.field.specs.Residue.{residues, val, val-small}
 use Rattle.lists.specs.Lists.{tabulate}
 use Rattle.lists.specs.ListLaws.{length-tabulate, length-rows, getD-tabulate, getD-here, getD-rows-more, tabulate-same}
 use Rattle.table.specs.Words.{Table, matrixOf}
 use Rattle.table.specs.Results.{column, matrixW}
 use Rattle.calls.specs.Finish.{written-length}
 use Rattle.elimination.specs.Elimination.{solution}
-use Rattle.dense_steps.specs.Squares.{Holds, HoldsColumn}
+use Rattle.dense_rows.specs.DenseRows.{Square, Beside}
+use Rattle.dense_rows.specs.RowLaws.{under}
+use Rattle.dense_solves.specs.Progress.{Holds, HoldsColumn}
 use Rattle.lists.specs.Parts.{part-word}
 use Rattle.dense.specs.DenseCall.{denseW}
 
@@ -34,18 +36,17 @@ module _ (P n : ℕ) (A : Table) (pos : 0 < P) where
     pub square-long : length lent ≡ n * n
     square-long = mid-len 0 (n * n) sq (omega (arith, long)) ∙ omega arith
 
-    pub square-holds : Holds P n 0 n lent (matrixOf P n A)
+    pub square-holds : Holds P n lent (matrixOf P n A)
     unfolding matrixW
     square-holds i j hi hj =
         let p = mul-le-mul-right n hi in
-        let z : 0 + (i * n + (0 + j)) ≡ i * n + j = omega arith in
-        part-word 0 (n * n - 0) sq (i * n + (0 + j)) (omega arith) ∙ ap (λ (m : ℕ). getD sq m 0) z ∙ ap (λ (l : List ℕ). getD l (i * n + j) 0) e
-        ∙ getD-rows-more (λ i. tabulate n (λ j. val P (matrixOf P n A i j))) n (λ k. length-tabulate n _) n i j (drop (n * n) v) hi hj ∙ getD-tabulate n (λ j. val P (matrixOf P n A i j)) j hj
+        let z : 0 + (i * n + j) ≡ i * n + j = omega arith in
+        part-word 0 (n * n - 0) sq (i * n + j) (omega arith) ∙ ap (λ (m : ℕ). getD sq m 0) z ∙ ap (λ (l : List ℕ). getD l (i * n + j) 0) e
+        ∙ getD-rows-more (λ i. tabulate n (λ j. val P (matrixOf P n A i j))) n (λ k. length-tabulate n _) n i j (drop (n * n) v) hi hj
+        ∙ getD-tabulate n (λ j. val P (matrixOf P n A i j)) j hj
 
-    pub square-below : (i j : ℕ) → i < n → j < n → getD lent (i * n + j) 0 < P
-    square-below i j hi hj =
-        let z : i * n + j ≡ i * n + (0 + j) = omega arith in
-        omega (arith, val-below P pos (matrixOf P n A i j), ap (λ (m : ℕ). getD lent m 0) z ∙ square-holds i j hi hj)
+    pub square-good : Square P n lent
+    square-good = record { room = omega (arith, square-long); below = λ i j hi hj. under P pos (matrixOf P n A i j) (square-holds i j hi hj) }
 
     -- the square cleared
     pub square-leaves : {y : List ℕ} → y ≡ tabulate (length lent) (λ e. 0) → putMid 0 (n * n - 0) sq y ≡ tabulate (n * n) (λ e. 0) ++ drop (n * n) v
@@ -64,8 +65,8 @@ module _ (P n : ℕ) (A : Table) (pos : 0 < P) where
     pub column-holds : HoldsColumn P n x (column P b)
     column-holds k h = copied k h ∙ sym (val-small P pos (getD b k 0) (below k h))
 
-    pub column-below : (k : ℕ) → k < n → getD x k 0 < P
-    column-below k h = omega (arith, copied k h, below k h)
+    pub column-good : n ≤ length x → Beside P n x
+    column-good long = record { room = long; below = λ k h. omega (arith, copied k h, below k h) }
 
   -- the solution copied from the private column to the result
   pub result-leaves : (b x d : List ℕ) {out : List ℕ} → n ≤ length x → HoldsColumn P n x (solution (residues P) n (matrixOf P n A) (column P b))
