@@ -1,4 +1,4 @@
 pub mod DenseCall
-pub mod DenseTheory
-pub mod DenseTheoryProof
+pub mod DensePromises
+pub mod DensePromisesProof
 pub mod DenseExamples

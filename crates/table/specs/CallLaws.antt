@@ -59,21 +59,25 @@ other-number m (c ∷ cs) v r h = go (c .cause) (eqb (c .refusal .number) m) ref
     go true false w r ih = eqb-false (c .refusal .number) m w
     go false false w r ih = ih r
 
+-- an answer with a number that no refusal of a list has was not given by the list
+pub none-gave : (m : ℕ) (cs : List Check) (v : Reply) → lacks m cs ≡ true → answer cs v .number ≡ m → NoFault cs
+unfolding answer
+none-gave m [] v r e n = refl
+none-gave m (c ∷ cs) v r e n = go (c .cause) (eqb (c .refusal .number) m) refl refl r e (λ r e n. none-gave m cs v r e n) n
+  where
+    go : (b z : Bool) → c .cause ≡ b → eqb (c .refusal .number) m ≡ z → (not z && lacks m cs) ≡ true → pick b (c .refusal) (answer cs v) .number ≡ m
+        → (lacks m cs ≡ true → answer cs v .number ≡ m → (n : ℕ) → causeAt cs n ≡ false) → (n : ℕ) → causeAt (c ∷ cs) n ≡ false
+    go b true q w r e ih n = clash (sym r)
+    go true false q w r e ih n = clash (sym (eq-eqb (c .refusal .number) m e) ∙ w)
+    go false false q w r e ih zero = q
+    go false false q w r e ih (suc n) = ih r e n
+
 -- the refusals of a list are refusals
 abbrev pub refusing : List Check → Bool
 refusing = lacks 0
 
 pub passed : (cs : List Check) (v : Reply) → refusing cs ≡ true → Accepted (answer cs v) → NoFault cs
-unfolding answer
-passed [] v r e n = refl
-passed (c ∷ cs) v r e n = go (c .cause) (eqb (c .refusal .number) 0) refl refl r e (λ r e n. passed cs v r e n) n
-  where
-    go : (b z : Bool) → c .cause ≡ b → eqb (c .refusal .number) 0 ≡ z → (not z && refusing cs) ≡ true → Accepted (pick b (c .refusal) (answer cs v))
-        → (refusing cs ≡ true → Accepted (answer cs v) → (n : ℕ) → causeAt cs n ≡ false) → (n : ℕ) → causeAt (c ∷ cs) n ≡ false
-    go b true q w r e ih n = clash (sym r)
-    go true false q w r e ih n = clash (sym (eq-eqb (c .refusal .number) 0 e) ∙ w)
-    go false false q w r e ih zero = q
-    go false false q w r e ih (suc n) = ih r e n
+passed = none-gave 0
 
 -- the reply then is v
 pub value-is : (cs : List Check) (v : Reply) → refusing cs ≡ true → Accepted (answer cs v) → answer cs v ≡ v

@@ -1,0 +1,297 @@
+-- The proofs of DensePromises.antt.
+use mathlib.Core.Bool.{Bool, true, false, _||_, not}
+use mathlib.Core.List.{List, [], _∷_, _++_}
+use mathlib.Core.Logic.{_≢_, _↔_, _⊎_, inl, inr}
+use mathlib.Core.Path.{_≡_, refl, sym, ap, ap₂, _∙_}
+use Prim.Native.Nat.{ℕ, _+_, _*_, _<_, _≤_}
+use native.Mathlib.Omega.{arith}
+use lib.Dec.{eqb}
+use lib.ListN.{length, getD, drop, length-append, length-drop}
+use lib.Seq.{drop-at}
+use native.Mathlib.Decide.{ℕ-discrete}
+use borrow.Author.Tests.{eq-eqb, ne-eqb, lt-leb, le-leb, not-false}
+use Rattle.algebra.specs.Ring.{Ring}
+use Rattle.algebra.specs.SumLaws.{sum-ext}
+use Rattle.algebra.specs.Matrix.{Matrix, sends}
+use Rattle.algebra.specs.Generators.{pick}
+use Rattle.field.specs.Prime.{Prime}
+use Rattle.field.specs.Residue.{residues, res, val, res-val, val-small, field, prime-pos}
+use Rattle.lists.specs.Lists.{tabulate, over}
+use Rattle.lists.specs.ListLaws.{clash, length-tabulate, getD-here, tabulate-same}
+use Rattle.table.specs.Limits.{upTo}
+use Rattle.table.specs.Words.{Table, withWords, firstBad, firstBadPlace, matrixOf, SameColumn}
+use Rattle.table.specs.WordLaws.{words-below, place-below, place-good, place-same, bad-le, place-le, firstBad-same, matrix-same}
+use Rattle.table.specs.Replies.{Reply, Check, Accepted, NoFault, causeAt, check, accept, refuse, answer, after, short}
+use Rattle.table.specs.Results.{column}
+use Rattle.table.specs.Calls.{tableLength, sizeChecks, solveReply, solveAfter}
+use Rattle.table.specs.CallLaws.{lacks, none-gave, all-clear, value-is, kept, surplus, after-is, after-length, answer-append, open-checks, none-row}
+use Rattle.table.specs.AcceptsProof.{causes as badCauses}
+use Rattle.table.specs.PackedProof.{Fits, AllFit, fit-nil, fit-cons, parts, fits-answer, plain, zero-fits, size-is}
+use Rattle.table.specs.UndertakingsProof.{first, second, third}
+use Rattle.elimination.specs.Elimination.{regular, solution}
+use Rattle.elimination.specs.EliminationLaws.{solution-solves, solution-only, regular-exactly}
+use Rattle.dense.specs.DenseCall.{regularW, denseW, denseEarlier, denseChecks, denseReply, denseAfter, squareAfter}
+use Rattle.dense.specs.DensePromises.{GoodSystem, WholeSingular, DenseCauses, DensePromises, UnusedInfluenceNothing}
+
+module _ (P N : ℕ) (A : Table) (x v d : List ℕ) where
+  abbrev K : Ring
+  K = residues P
+
+  abbrev M : Matrix K
+  M = matrixOf P N A
+
+  abbrev earlier : List Check
+  earlier = denseEarlier P N A x v d
+
+  -- the last check
+  abbrev end : List Check
+  end = check (not (regularW P N A)) (refuse 7 1 0) ∷ []
+
+  abbrev y : Reply
+  y = denseReply P N A x v d
+
+  -- ---- The checks.
+
+  -- the last one passes where the whole matrix is not singular
+  module _ (prime : Prime P) where
+    is-regular : (WholeSingular P N A → ⊥) → regular K N M ≡ true
+    is-regular n = go (regular K N M) refl
+      where
+        go : (b : Bool) → regular K N M ≡ b → b ≡ true
+        go true e = refl
+        go false e = absurd (n (regular-exactly (field P prime) N M .0 e))
+
+    not-singular : regular K N M ≡ true → WholeSingular P N A → ⊥
+    not-singular r s = clash (sym r ∙ regular-exactly (field P prime) N M .1 s)
+
+    regular-clear : (not (regularW P N A) ≡ false) ↔ (WholeSingular P N A → ⊥)
+    unfolding regularW
+    regular-clear = ((λ e. not-singular (not-false _ e)), λ n. ap not (is-regular n))
+
+  causes : DenseCauses P N A x v d (λ k. causeAt (denseChecks P N A x v d) k ≡ false)
+  causes = record {
+    prime = badCauses .prime 2147483647 P;
+    size = badCauses .size 256 N;
+    orders = badCauses .order 8 (A .lower) (A .upper);
+    table-long = badCauses .short (A .words) (tableLength N A);
+    column-long = badCauses .short x N;
+    square-long = badCauses .short v (N * N);
+    result-long = badCauses .short d N;
+    table-below = (λ e. words-below P N A .0 (none-row (firstBad P N A) .0 e), λ h. none-row (firstBad P N A) .1 (words-below P N A .1 h));
+    column-below = (λ e. place-below P N x (none-row (firstBadPlace P N x) .0 e), λ h. none-row (firstBadPlace P N x) .1 (place-good P N x h));
+    regular = regular-clear;
+  }
+
+  earlier-good : NoFault earlier → GoodSystem P N A x v d
+  earlier-good z =
+      let c = causes in
+      let p = c .prime .0 (z 0) in
+      let s = c .size .0 (z 1) in
+      ((p .0, p .1, s .0, s .1), (c .orders .0 (z 2), c .table-long .0 (z 3), c .table-below .0 (z 7)), (c .column-long .0 (z 4), c .column-below .0 (z 8)),
+      c .square-long .0 (z 5), c .result-long .0 (z 6))
+
+  good-earlier : GoodSystem P N A x v d → NoFault earlier
+  good-earlier g =
+      let c = causes in
+      all-clear earlier (c .prime .1 (g .0 .0, g .0 .1), (c .size .1 (g .0 .2, g .0 .3), (c .orders .1 (g .1 .0), (c .table-long .1 (g .1 .1), (c .column-long .1 (g .2 .0),
+      (c .square-long .1 (g .3), (c .result-long .1 (g .4), (c .table-below .1 (g .1 .2), (c .column-below .1 (g .2 .1), tt)))))))))
+
+  -- the last check decides where the others pass, and they pass where the reply is accepted or has the number 7
+  split : y ≡ answer earlier (answer end (accept 0))
+  unfolding denseReply
+  split = answer-append earlier end (accept 0)
+
+  decided : GoodSystem P N A x v d → y ≡ pick (not (regularW P N A)) (refuse 7 1 0) (accept 0)
+  unfolding answer
+  decided g = split ∙ open-checks earlier (answer end (accept 0)) (good-earlier g)
+
+  good-at : (m : ℕ) → lacks m earlier ≡ true → y .number ≡ m → GoodSystem P N A x v d
+  good-at m r e = earlier-good (none-gave m earlier (answer end (accept 0)) r (ap (λ (w : Reply). w .number) (sym split) ∙ e))
+
+  on-regular : GoodSystem P N A x v d → regular K N M ≡ true → y ≡ accept 0
+  unfolding regularW
+  on-regular g r = decided g ∙ ap (λ (b : Bool). pick (not b) (refuse 7 1 0) (accept 0)) r
+
+  on-singular : GoodSystem P N A x v d → regular K N M ≡ false → y ≡ refuse 7 1 0
+  unfolding regularW
+  on-singular g r = decided g ∙ ap (λ (b : Bool). pick (not b) (refuse 7 1 0) (accept 0)) r
+
+  -- a reply is not accepted and refused with 7
+  apart : {X : Type 0} → Accepted y → y ≡ refuse 7 1 0 → X
+  apart ok e = absurd (let z : 0 ≡ 7 = sym ok ∙ ap (λ (w : Reply). w .number) e in omega arith)
+
+  accepts : Accepted y ↔ (GoodSystem P N A x v d × (WholeSingular P N A → ⊥))
+  accepts = (
+    (λ ok. let g = good-at 0 refl ok in (g, λ s. apart ok (on-singular g (regular-exactly (field P (g .0 .0)) N M .1 s)))),
+    λ g. ap (λ (w : Reply). w .number) (on-regular (g .0) (is-regular (g .0 .0 .0) (g .1))),
+  )
+
+  singular : (y ≡ refuse 7 1 0) ↔ (GoodSystem P N A x v d × WholeSingular P N A)
+  singular = (there, λ g. on-singular (g .0) (regular-exactly (field P (g .0 .0 .0)) N M .1 (g .1)))
+    where
+      there : y ≡ refuse 7 1 0 → GoodSystem P N A x v d × WholeSingular P N A
+      there e = let g = good-at 7 refl (ap (λ (w : Reply). w .number) e) in (g, go g (regular K N M) refl)
+        where
+          go : GoodSystem P N A x v d → (b : Bool) → regular K N M ≡ b → WholeSingular P N A
+          go g true q = apart (ap (λ (w : Reply). w .number) (on-regular g q)) e
+          go g false q = regular-exactly (field P (g .0 .0)) N M .0 q
+
+  large : Prime P → P ≤ 2147483647 → 256 < N → y ≡ refuse 2 0 0
+  unfolding denseReply answer
+  large p l h = let one : 1 ≤ N = omega arith in rw (causes .prime .1 (p, l), le-leb 1 N one, lt-leb N 256 h) refl
+
+  -- ---- The solution.
+
+  solution-long : length (denseW P N A x) ≡ N
+  unfolding denseW
+  solution-long = length-tabulate N _
+
+  module _ (ok : Accepted y) where
+    good : GoodSystem P N A x v d
+    good = accepts .0 ok .0
+
+    regular-here : regular K N M ≡ true
+    regular-here = is-regular (good .0 .0) (accepts .0 ok .1)
+
+    -- the words of the result
+    word-is : (k : ℕ) → k < N → getD (denseAfter P N A x v d) k 0 ≡ val P (solution K N M (column P x) k)
+    unfolding denseW
+    word-is k h = ap (λ (l : List ℕ). getD l k 0) (after-is y (denseW P N A x) d ok) ∙ getD-here N _ (drop (length (denseW P N A x)) d) k h
+
+    column-is : (k : ℕ) → k < N → column P (denseAfter P N A x v d) k ≡ solution K N M (column P x) k
+    column-is k h = ap (res P) (word-is k h) ∙ res-val P _
+
+    solves : (k : ℕ) → k < N → sends K N M (column P (denseAfter P N A x v d)) k ≡ column P x k
+    solves k h = sum-ext K N _ _ (λ j l. ap (K .mul (M k j)) (column-is j l)) ∙ solution-solves (field P (good .0 .0)) N M (column P x) regular-here k h
+
+    only : (z : ℕ → K .car) → ((k : ℕ) → k < N → sends K N M z k ≡ column P x k) → (k : ℕ) → k < N → z k ≡ column P (denseAfter P N A x v d) k
+    only z s k h = solution-only (field P (good .0 .0)) N M (column P x) regular-here z s k h ∙ sym (column-is k h)
+
+    agrees : (w c : List ℕ) → Accepted (solveReply P N A x w c) → (k : ℕ) → k < N → getD (denseAfter P N A x v d) k 0 ≡ getD (solveAfter P N A x w c) k 0
+    agrees w c ok′ k h =
+        let e : column P (solveAfter P N A x w c) k ≡ solution K N M (column P x) k =
+        only (column P (solveAfter P N A x w c)) (λ k h. third P N .solve A x w c ok′ k h) k h ∙ column-is k h in
+        word-is k h ∙ sym (ap (val P) e) ∙ val-small P (prime-pos P (good .0 .0)) _ (place-below P N (solveAfter P N A x w c) (second .again P N A .solve x w c ok′) k h)
+
+  no-worse : (w c : List ℕ) → Accepted (solveReply P N A x w c) → N ≤ 256 → N * N ≤ length v → N ≤ length d → Accepted y
+  no-worse w c ok l r s =
+      let g = first .accepts P N A .solve x w c .0 ok in
+      accepts .1 (((g .0 .0, g .0 .1, g .0 .2, l), g .1, g .2, r, s), g .5 N (omega arith))
+
+  -- ---- The square.
+
+  abbrev zeros : List ℕ
+  zeros = tabulate (N * N) (λ e. 0)
+
+  abbrev cleared : List ℕ
+  cleared = over zeros v
+
+  in-use : (y .number ≡ 0) ⊎ (y .number ≡ 7) → squareAfter P N A x v d ≡ cleared
+  in-use (inl e) = ap (λ (b : Bool). pick (b || eqb (y .number) 7) cleared v) (eq-eqb (y .number) 0 e)
+  in-use (inr e) = ap₂ (λ (a b : Bool). pick (a || b) cleared v) (ne-eqb (y .number) 0 (λ z. absurd (let q : 7 ≡ 0 = sym e ∙ z in omega arith))) (eq-eqb (y .number) 7 e)
+
+  left-alone : y .number ≢ 0 → y .number ≢ 7 → squareAfter P N A x v d ≡ v
+  left-alone n m = ap₂ (λ (a b : Bool). pick (a || b) cleared v) (ne-eqb (y .number) 0 n) (ne-eqb (y .number) 7 m)
+
+  -- what holds of a square that was left and of one that was in use
+  by-use : (Q : List ℕ → Type 0) → Q v → (GoodSystem P N A x v d → Q cleared) → Q (squareAfter P N A x v d)
+  by-use Q kept used = go (ℕ-discrete (y .number) 0) (ℕ-discrete (y .number) 7)
+    where
+      go : Dec (y .number ≡ 0) → Dec (y .number ≡ 7) → Q (squareAfter P N A x v d)
+      go (yes e) r = rw (in-use (inl e)) (used (good-at 0 refl e))
+      go (no n) (yes e) = rw (in-use (inr e)) (used (good-at 7 refl e))
+      go (no n) (no m) = rw (left-alone n m) kept
+
+  zeros-long : length zeros ≡ N * N
+  zeros-long = length-tabulate (N * N) _
+
+  square-surplus : drop (N * N) (squareAfter P N A x v d) ≡ drop (N * N) v
+  square-surplus = by-use (λ l. drop (N * N) l ≡ drop (N * N) v) refl
+      (λ g. drop-at zeros _ (N * N) zeros-long ∙ ap (λ (m : ℕ). drop m v) zeros-long)
+
+  square-length : length (squareAfter P N A x v d) ≡ length v
+  square-length = by-use (λ l. length l ≡ length v) refl (λ g.
+      length-append zeros (drop (length zeros) v) ∙ ap (λ (m : ℕ). length zeros + m) (length-drop (length zeros) v) ∙ omega (arith, zeros-long, g .3))
+
+  -- ---- Words that do not count.
+
+  module _ (x′ : List ℕ) (e : SameColumn N x x′) (l : short x N ≡ short x′ N) where
+    reply-same : y ≡ denseReply P N A x′ v d
+    unfolding denseReply
+    reply-same = rw (l, place-same P N x x′ e)
+
+    words-same : Accepted y → denseW P N A x ≡ denseW P N A x′
+    unfolding denseW
+    words-same ok = tabulate-same N _ _ (λ k h. ap (val P)
+        (solution-only (field P (good ok .0 .0)) N M (column P x′) (regular-here ok) (solution K N M (column P x))
+        (λ j q. solution-solves (field P (good ok .0 .0)) N M (column P x) (regular-here ok) j q ∙ ap (res P) (e j q)) k h))
+
+    result-same : denseAfter P N A x v d ≡ denseAfter P N A x′ v d
+    result-same = go (ℕ-discrete (y .number) 0)
+      where
+        go : Dec (y .number ≡ 0) → denseAfter P N A x v d ≡ denseAfter P N A x′ v d
+        go (yes ok) = ap₂ (λ (r : Reply) (ys : List ℕ). after r ys d) reply-same (words-same ok)
+        go (no n) = kept y (denseW P N A x) d n ∙ sym (kept (denseReply P N A x′ v d) (denseW P N A x′) d (rw reply-same at n))
+
+    all-same : (y ≡ denseReply P N A x′ v d) × (denseAfter P N A x v d ≡ denseAfter P N A x′ v d) × (squareAfter P N A x v d ≡ squareAfter P N A x′ v d)
+    all-same = (reply-same, result-same, ap (λ (r : Reply). pick (eqb (r .number) 0 || eqb (r .number) 7) cleared v) reply-same)
+
+  unread : (v′ d′ : List ℕ) → short v (N * N) ≡ short v′ (N * N) → short d N ≡ short d′ N → y ≡ denseReply P N A x v′ d′
+  unfolding denseReply
+  unread v′ d′ a b = rw (a, b)
+
+  -- ---- The reply as one number.
+
+  short-fits : (b : ℕ) → b < 256 → Fits (refuse 4 b 0)
+  short-fits b h = plain 4 b 0 (omega arith) h (omega arith)
+
+  numbers-fit : AllFit (sizeChecks P N (upTo 256) A [])
+  numbers-fit = fit-cons _ _ (plain 1 0 0 (omega arith) (omega arith) (omega arith)) (fit-cons _ _ (plain 2 0 0 (omega arith) (omega arith) (omega arith))
+      (fit-cons _ _ (plain 3 1 0 (omega arith) (omega arith) (omega arith)) fit-nil))
+
+  -- the checks after the first three
+  abbrev others : List Check
+  others = drop 3 (denseChecks P N A x v d)
+
+  others-fit : N ≤ 256 → AllFit others
+  others-fit h =
+      fit-cons _ _ (short-fits 1 (omega arith)) (fit-cons _ _ (short-fits 3 (omega arith)) (fit-cons _ _ (short-fits 4 (omega arith)) (fit-cons _ _ (short-fits 5 (omega arith))
+      (fit-cons _ _ (plain 5 1 _ (omega arith) (omega arith) (omega (arith, bad-le P N A))) (fit-cons _ _ (plain 5 3 _ (omega arith) (omega arith) (omega (arith, place-le P N x)))
+      (fit-cons _ _ (plain 7 1 0 (omega arith) (omega arith) (omega arith)) fit-nil))))))
+
+  fits : Fits y
+  unfolding denseReply
+  fits = rw (answer-append (sizeChecks P N (upTo 256) A []) others (accept 0))
+      (fits-answer (sizeChecks P N (upTo 256) A []) (answer others (accept 0)) (λ k z. numbers-fit .at k)
+      (λ z. fits-answer others (accept 0) (λ k w. others-fit (size-is 256 N (z 1)) .at k) (λ w. zero-fits)))
+
+  pub promises : DensePromises P N A x v d
+  unfolding denseReply
+  promises = record {
+    accepts = accepts;
+    solves = solves;
+    only = only;
+    singular = singular;
+    large = large;
+    order = refl;
+    causes = causes;
+    square-zeros = λ u e h. ap (λ (l : List ℕ). getD l e 0) (in-use u) ∙ getD-here (N * N) (λ e. 0) _ e h;
+    square-kept = left-alone;
+    square-surplus = square-surplus;
+    result-kept = (kept y (denseW P N A x) d, surplus y N (denseW P N A x) d (λ ok. solution-long));
+    square-length = square-length;
+    result-length = after-length y (denseW P N A x) d (λ ok. omega (arith, solution-long, good ok .4));
+    agrees = agrees;
+    no-worse = no-worse;
+    surplus = all-same;
+    unread = unread;
+    value = value-is (denseChecks P N A x v d) (accept 0) refl;
+    packs = parts y fits;
+  }
+
+pub unused-influence-nothing : UnusedInfluenceNothing
+unfolding denseReply denseW regularW
+unused-influence-nothing P N A t u l x v d =
+    let f : firstBad P N A ≡ firstBad P N (withWords A t) = firstBad-same P N A t u in
+    let m : matrixOf P N A ≡ matrixOf P N (withWords A t) = matrix-same P N A t u in
+    (rw (l, f, m), rw (l, f, m), rw (l, f, m))
