@@ -13,7 +13,7 @@ static inline int accepted(const char *call, uint64_t reply)
     static const char *const causes[] = {
         "accepted",
         "p, or p1 or p2, is no prime from 2 to 2147483647",
-        "n is not 1 to 1024",
+        "n is not 1 to 1024, or for solve_dense not 1 to 256",
         "an order is above 8",
         "a buffer is too short",
         "a word is not below its prime",
@@ -26,7 +26,7 @@ static inline int accepted(const char *call, uint64_t reply)
         "two residues have no fraction within the bound",
     };
     static const char *const buffers[] = {
-        "no buffer", "the table", "the second table", "the column", "work", "the result", "the file",
+        "no buffer", "the table", "the second table", "the column", "work or the square", "the result", "the file",
     };
     /* Those of fractions, which has no third. */
     static const char *const fraction_buffers[] = {
@@ -34,12 +34,13 @@ static inline int accepted(const char *call, uint64_t reply)
     };
     const char *const *named = strcmp(call, "fractions") == 0 ? fraction_buffers : buffers;
     const uint32_t number = residues_number(reply);
+    const int whole = number == RESIDUES_ZERO_PIVOT && residues_row(reply) == 0;
     if (number == RESIDUES_OK) {
         return 1;
     }
     fflush(stdout);
-    fprintf(stderr, "%s: refused %u: %s (%s, row %u)\n", call, number, causes[number], named[residues_buffer(reply)],
-            residues_row(reply));
+    fprintf(stderr, "%s: refused %u: %s (%s, row %u)\n", call, number, whole ? "the whole matrix is singular" : causes[number],
+            named[residues_buffer(reply)], residues_row(reply));
     return 0;
 }
 

@@ -3,10 +3,12 @@
 #include "residues.h"
 
 const char *const call_names[CALLS] = {"entry", "matrix", "apply", "apply_transpose", "transpose", "multiple",
-                                       "sum", "product", "solve", "inverse", "read_file", "write_file", "fractions"};
+                                       "sum", "product", "solve", "inverse", "read_file", "write_file", "fractions",
+                                       "solve_dense"};
 
 /* t table, 2 second table, c column, w work, r result, f file. */
-static const char *const buffers_of[CALLS] = {"t", "tr", "tcr", "tcr", "tr", "tr", "t2r", "t2r", "tcwr", "tr", "rf", "tf", "t2wr"};
+static const char *const buffers_of[CALLS] = {"t", "tr", "tcr", "tcr", "tr", "tr", "t2r", "t2r", "tcwr", "tr", "rf", "tf", "t2wr",
+                                              "tcwr"};
 
 int uses(int call, int buffer)
 {
@@ -30,7 +32,7 @@ int refuses(int call, int number)
     case BAD_ORDER_SUM:
         return call == SUM || call == PRODUCT;
     case ZERO_PIVOT:
-        return call == SOLVE || call == INVERSE;
+        return call == SOLVE || call == INVERSE || call == SOLVE_DENSE;
     case BAD_PLACE:
         return call == ENTRY;
     case BAD_LENGTH:
@@ -42,6 +44,11 @@ int refuses(int call, int number)
     default:
         return 1;
     }
+}
+
+uint32_t largest_size(int call)
+{
+    return call == SOLVE_DENSE ? LARGEST_SQUARE : LARGEST_SIZE;
 }
 
 size_t unit(int buffer)
@@ -60,6 +67,7 @@ static size_t needed_result(const trial *t)
     case APPLY:
     case APPLY_TRANSPOSE:
     case SOLVE:
+    case SOLVE_DENSE:
         return t->first.n;
     case SUM:
     case PRODUCT:
@@ -67,6 +75,11 @@ static size_t needed_result(const trial *t)
     default:
         return table_words(t->first);
     }
+}
+
+static size_t needed_work(const trial *t)
+{
+    return (size_t)t->first.n * (t->call == FRACTIONS ? 1 : t->call == SOLVE_DENSE ? t->first.n : t->first.s);
 }
 
 /* The words or bytes of a buffer that the call needs; the numbers are within limits. */
@@ -82,7 +95,7 @@ size_t needed_units(const trial *t, int buffer)
     case COLUMN:
         return t->first.n;
     case WORK:
-        return (size_t)t->first.n * (t->call == FRACTIONS ? 1 : t->first.s);
+        return needed_work(t);
     case RESULT:
         return needed_result(t);
     default:
@@ -121,6 +134,8 @@ uint64_t run_call(const trial *t, void *const *lent)
         return residues_read_file(LENT(FILE_BYTES), LENT(RESULT));
     case WRITE_FILE:
         return residues_write_file(NUMBERS, LENT(TABLE), LENT(FILE_BYTES));
+    case SOLVE_DENSE:
+        return residues_solve_dense(NUMBERS, LENT(TABLE), LENT(COLUMN), LENT(WORK), LENT(RESULT));
     default:
         return residues_fractions(t->first.p, t->second.p, t->first.n, LENT(TABLE), LENT(SECOND), LENT(WORK), LENT(RESULT));
     }

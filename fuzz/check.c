@@ -79,10 +79,9 @@ static void check_reply(uint64_t came)
 /* The owed units, then those that were there before. */
 static void check_units(int buffer, const unsigned char *lent)
 {
-    const int written = (owed.reply & 255) == ACCEPTED && is_written(now.call, buffer);
-    const size_t bytes = bytes_of(&now, buffer), changed = written ? owed.needed[buffer] * unit(buffer) : 0;
+    const size_t bytes = bytes_of(&now, buffer), changed = owed.written[buffer] * unit(buffer);
     const unsigned char *before = now.before[buffer], *after = owed.after[buffer];
-    const int judged = written && buffer == RESULT && owed.judged;
+    const int judged = changed > 0 && buffer == RESULT && owed.judged;
     size_t k;
     VALGRIND_MAKE_MEM_DEFINED(lent + changed, bytes - changed);
     if (judged && !judge(&now, (const uint32_t *)(const void *)lent))

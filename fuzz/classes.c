@@ -1,5 +1,6 @@
 /* Classes of inputs that the fuzzer is led to, though they may run the same code: the first cause of a refusal, alone or with
- * another, what a reply names, surplus, sizes and orders, fractions at their bound. They lead the fuzzer and judge nothing. */
+ * another, what a reply names, surplus, sizes and orders, fractions at their bound, singular corners and matrices. They lead the
+ * fuzzer and judge nothing. */
 #include "fuzz.h"
 
 /* Causes, told apart by buffer, in an order that is every call's. */
@@ -35,7 +36,8 @@ static uint32_t causes_of_numbers(const trial *t, shape of)
 {
     const int two = t->call == SUM || t->call == PRODUCT;
     const uint64_t r = (uint64_t)of.r + t->second.r, s = (uint64_t)of.s + t->second.s;
-    return add_if(!is_prime(of.p), PRIME) | add_if(of.n < 1 || of.n > LARGEST_SIZE, SIZE) | add_if(is_above(of), FIRST_ORDER) |
+    const int bad_size = of.n < 1 || of.n > largest_size(t->call);
+    return add_if(!is_prime(of.p), PRIME) | add_if(bad_size, SIZE) | add_if(is_above(of), FIRST_ORDER) |
            add_if(two && is_above(t->second), SECOND_ORDER) | add_if(two && (r > LARGEST_ORDER || s > LARGEST_ORDER), ORDER_SUM) |
            add_if(t->call == ENTRY && (t->i < 1 || t->i > of.n || t->j < 1 || t->j > of.n), PLACE);
 }
@@ -93,6 +95,14 @@ static uint32_t causes_of_fractions(const trial *t)
     return causes | add_if(place > 0 && (first == 0 || place < first) && (second == 0 || place < second), FRACTION);
 }
 
+/* Whether a pivot is zero, or of the dense solve the matrix is singular, where it is small: a larger one would take time. */
+static int has_no_pivot(const trial *t)
+{
+    if (t->call != SOLVE_DENSE)
+        return zero_pivot(t) != 0;
+    return t->first.n <= DENSE_SIZE && column_without(t) != 0;
+}
+
 static uint32_t all_causes(const trial *t)
 {
     uint32_t causes;
@@ -107,7 +117,7 @@ static uint32_t all_causes(const trial *t)
     for (buffer = 0; buffer < BUFFERS; buffer++)
         causes |= causes_of_buffer(t, buffer);
     if (refuses(t->call, ZERO_PIVOT) && (causes & (add_if(1, PRIME) | add_if(1, SHORT + TABLE) | add_if(1, WORD + TABLE))) == 0)
-        causes |= add_if(zero_pivot(t) != 0, PIVOT);
+        causes |= add_if(has_no_pivot(t), PIVOT);
     return causes | add_if(t->call == MULTIPLE && t->c >= t->first.p, FACTOR);
 }
 
@@ -139,9 +149,9 @@ static int is_rich(const trial *t, const answer *owed)
 }
 
 /* 0 to 7, so that 1, 2, small, dense, larger and the largest two sizes are told apart. */
-static unsigned kind_of_size(uint32_t n)
+static unsigned kind_of_size(uint32_t n, uint32_t largest)
 {
-    return n <= 2 ? n - 1 : n <= 8 ? 2 : n <= DENSE_SIZE ? 3 : n <= 64 ? 4 : n < 1023 ? 5 : n - 1017;
+    return n <= 2 ? n - 1 : n <= 8 ? 2 : n <= DENSE_SIZE ? 3 : n <= 64 ? 4 : n + 1 < largest ? 5 : n + 7 - largest;
 }
 
 static unsigned kind_of_order(uint32_t order)
@@ -157,7 +167,7 @@ static void mark_accepted(const trial *t, const answer *owed, unsigned start)
     const table in = table_in(t, TABLE);
     const unsigned high = uses(t->call, TABLE) && is_high(&in), large = of.p > 65537;
     const unsigned nulls[3] = {call, (unsigned)t->empty_is_null, (unsigned)t->same};
-    const unsigned sizes[4] = {call, kind_of_size(of.n), large, (unsigned)is_rich(t, owed)};
+    const unsigned sizes[4] = {call, kind_of_size(of.n, largest_size(t->call)), large, (unsigned)is_rich(t, owed)};
     const unsigned orders[5] = {call, large, kind_of_order(of.r), kind_of_order(of.s), high};
     unsigned buffer;
     start = mark(start, nulls, null_limits, 3);
@@ -197,6 +207,42 @@ static void mark_fractions(const trial *t, const answer *owed)
     }
 }
 
+/* None, the first, the second, the last, another. */
+static unsigned kind_of_column(uint32_t k, uint32_t n)
+{
+    return k < 3 ? k : k == n ? 3 : 4;
+}
+
+/* Of a dense solve that is accepted or finds the matrix singular: its size, the first singular corner, surplus of the square; of a
+ * small one the first column without a pivot, exchanges, and the prime. */
+static void mark_whole(const trial *t, int accepted)
+{
+    const unsigned size_limits[3] = {2, 8, 2}, corner_limits[3] = {2, 5, 2}, small_limits[4] = {2, 5, 4, 3};
+    const uint32_t n = t->first.n, p = t->first.p, corner = zero_pivot(t);
+    const unsigned sizes[3] = {(unsigned)accepted, kind_of_size(n, LARGEST_SQUARE), corner != 0};
+    const unsigned corners[3] = {(unsigned)accepted, kind_of_column(corner, n), t->count[WORK] > needed_units(t, WORK)};
+    uint32_t zeros[DENSE_SIZE] = {0}, exchanges;
+    unsigned start = mark(CLASSES - FRACTION_CLASSES - WHOLE_CLASSES, sizes, size_limits, 3);
+    start = mark(start, corners, corner_limits, 3);
+    if (n <= DENSE_SIZE) {
+        const unsigned without = kind_of_column(solve_whole(t, zeros, &exchanges), n);
+        const unsigned small[4] = {n > 8, without, exchanges, p == 2 ? 0 : p <= 65537 ? 1 : 2};
+        mark(start, small, small_limits, 4);
+    }
+}
+
+/* A size out of limits: 0, one above the call's largest, within another call's, above. */
+static unsigned kind_of_bad_size(uint32_t n, uint32_t largest)
+{
+    return n == 0 ? 0 : n == largest + 1 ? 1 : n <= LARGEST_SIZE ? 2 : 3;
+}
+
+/* An order of 9 alone, the lower or the upper, or others. */
+static unsigned kind_of_bad_order(shape of)
+{
+    return of.r == LARGEST_ORDER + 1 && of.s <= LARGEST_ORDER ? 0 : of.s == LARGEST_ORDER + 1 && of.r <= LARGEST_ORDER ? 1 : 2;
+}
+
 /* Whether a buffer lacks one unit; of a row none, the first, the second, the last, one whose number takes two bytes, another. */
 static unsigned kind_of_row(const trial *t, uint64_t reply)
 {
@@ -204,13 +250,17 @@ static unsigned kind_of_row(const trial *t, uint64_t reply)
     const int buffer = (int)(reply >> 8 & 255) - 1;
     if ((reply & 255) == SHORT_BUFFER)
         return t->count[buffer] + 1 == needed_units(t, buffer);
+    if ((reply & 255) == BAD_SIZE)
+        return kind_of_bad_size(t->first.n, largest_size(t->call));
+    if ((reply & 255) == BAD_ORDER)
+        return kind_of_bad_order(buffer == SECOND ? t->second : t->first);
     return row < 3 ? row : row == t->first.n ? 3 : row > 255 ? 4 : 5;
 }
 
-/* A prime, below 2, another number within the limit, above it, above it without a small divisor. */
+/* A prime, below 2, another number within the limit, above it, a prime above it. */
 static unsigned kind_of_number(uint32_t p)
 {
-    return is_prime(p) ? 0 : p < 2 ? 1 : p <= LARGEST_PRIME ? 2 : p % 2 == 0 || p % 3 == 0 || p % 5 == 0 ? 3 : 4;
+    return is_prime(p) ? 0 : p < 2 ? 1 : p <= LARGEST_PRIME ? 2 : p != 2147483659u && p != 4294967291u ? 3 : 4;
 }
 
 void mark_classes(const trial *t, const answer *owed, uint8_t *seen)
@@ -236,4 +286,6 @@ void mark_classes(const trial *t, const answer *owed, uint8_t *seen)
         mark_accepted(t, owed, start + CALLS * CAUSES * CAUSES);
     if (t->call == FRACTIONS && (number == ACCEPTED || number == NO_FRACTION))
         mark_fractions(t, owed);
+    if (t->call == SOLVE_DENSE && (number == ACCEPTED || number == ZERO_PIVOT))
+        mark_whole(t, number == ACCEPTED);
 }

@@ -41,9 +41,10 @@ static uint32_t prime_or_not(reader *in)
 }
 
 /* Small sizes for the most part: larger ones take time. */
-static uint32_t size_or_not(reader *in)
+static uint32_t size_or_not(reader *in, int call)
 {
-    static const uint32_t sizes[] = {0, 1025, 4294967295u, 65537, 1024, 1023, 64, 33, 20, 16, 15, 12, 9, 10, 2147483648u, 0};
+    const uint32_t most = largest_size(call), other = call == SOLVE_DENSE ? LARGEST_SIZE : 0;
+    const uint32_t sizes[] = {0, most + 1, 4294967295u, 65537, most, most - 1, 64, 33, 20, 16, 15, 12, 9, 10, 2147483648u, other};
     const uint32_t byte = next_byte(in);
     if (byte < HOSTILE)
         return 1 + (byte + 2) % 8;
@@ -95,7 +96,7 @@ static void decode_numbers(reader *in, trial *t)
 {
     const int two = t->call == SUM || t->call == PRODUCT, none = t->call == FRACTIONS;
     t->first.p = prime_or_not(in);
-    t->first.n = size_or_not(in);
+    t->first.n = size_or_not(in, t->call);
     t->first.r = none ? 0 : order_or_not(in, two ? 4 : 8);
     t->first.s = none ? 0 : order_or_not(in, two ? 4 : 8);
     t->second = t->first;
@@ -130,6 +131,8 @@ static void decode_words(reader *in, trial *t)
     fill_table(in, one, t->before[TABLE]);
     if (t->call == SOLVE || t->call == INVERSE)
         aim_pivots(in, one, t->before[TABLE]);
+    if (t->call == SOLVE_DENSE)
+        aim_exchanges(in, one, t->before[TABLE]);
     if (uses(t->call, SECOND))
         fill_table(in, two, t->before[SECOND]);
     if (t->call == FRACTIONS)

@@ -96,6 +96,54 @@ void aim_pivots(reader *in, shape of, uint32_t *words)
     }
 }
 
+/* The first word of a generator is set, its others are 0. */
+static void put_corner(shape of, uint32_t *words, uint32_t k, int kind, uint32_t word)
+{
+    uint32_t *start = words + (size_t)(k - 1) * row_words(of) + start_of(of, kind);
+    const uint32_t count = rows_of(of, kind) * columns_of(of, kind);
+    memset(start, 0, count * sizeof *start);
+    if (count > 0)
+        *start = word;
+}
+
+/* Row k of the matrix, or its column k, is all zeros. */
+static void put_zeros(shape of, uint32_t *words, uint32_t k, int as_row)
+{
+    put_corner(of, words, k, D, 0);
+    put_corner(of, words, k, as_row ? P : Q, 0);
+    put_corner(of, words, k, as_row ? G : H, 0);
+}
+
+/* Row n goes to the top, with some factor, and every other row down by one: only the last row has a pivot for column 1. */
+static void put_shift(shape of, uint32_t *words)
+{
+    uint32_t k;
+    for (k = 1; k <= of.n; k++) {
+        put_corner(of, words, k, D, 0);
+        put_corner(of, words, k, P, k == of.n);
+        put_corner(of, words, k, A, 1);
+        put_corner(of, words, k, Q, k == 1);
+        put_corner(of, words, k, G, 1 + scramble(k) % (of.p - 1));
+        put_corner(of, words, k, B, 0);
+        put_corner(of, words, k, H, 1);
+    }
+}
+
+/* Pivots as above, or zeros on the diagonal, or a shift; then a chosen row or column may be all zeros. */
+void aim_exchanges(reader *in, shape of, uint32_t *words)
+{
+    const uint32_t how = next_byte(in), place = how / 4 % 4 < 2 ? 0 : next_byte(in);
+    uint32_t k;
+    if (how % 4 < 2)
+        aim_pivots(in, of, words);
+    for (k = 1; k <= of.n && how % 4 == 2; k++)
+        put_corner(of, words, k, D, 0);
+    if (how % 4 == 3 && of.p > 1)
+        put_shift(of, words);
+    if (how / 4 % 4 >= 2)
+        put_zeros(of, words, 1 + place % of.n, how / 4 % 4 == 2);
+}
+
 /* Up to the most, below 16, or at the most or next to it; a word decides. */
 static uint32_t part_of(uint32_t word, uint32_t how, uint32_t most)
 {

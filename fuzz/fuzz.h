@@ -7,11 +7,14 @@
 
 #define LARGEST_PRIME 2147483647u
 #define LARGEST_SIZE 1024u
+#define LARGEST_SQUARE 256u
 #define LARGEST_ORDER 8u
 
-/* Up to this size everything is compared with dense matrices; up to this bound, too, every pair is tried as a fraction. */
+/* Up to this size everything is compared with dense matrices; up to this bound, too, every pair is tried as a fraction; up to so
+ * many columns all are tried as solutions. */
 #define DENSE_SIZE 16u
 #define DENSE_BOUND 128u
+#define DENSE_COLUMNS 4096u
 
 /* The most bytes that a buffer is lent: a matrix of 1,024 rows and some words more. */
 #define MOST_BYTES ((size_t)1 << 22 | 4096u)
@@ -21,10 +24,10 @@ enum { ACCEPTED, BAD_PRIME, BAD_SIZE, BAD_ORDER, SHORT_BUFFER, BAD_WORD, BAD_ORD
        BAD_CHAIN, EQUAL_PRIMES, NO_FRACTION, REPLIES };
 
 enum { ENTRY, MATRIX, APPLY, APPLY_TRANSPOSE, TRANSPOSE, MULTIPLE, SUM, PRODUCT, SOLVE, INVERSE, READ_FILE, WRITE_FILE, FRACTIONS,
-       CALLS };
+       SOLVE_DENSE, CALLS };
 
 /* The buffers; a reply names each by one number more. Of fractions both columns of residues are tables of orders 0, each with its
- * own prime, numerators are the work and denominators the result. */
+ * own prime, numerators are the work and denominators the result. The square of the dense solve is the work too. */
 enum { TABLE, SECOND, COLUMN, WORK, RESULT, FILE_BYTES, BUFFERS };
 
 /* The generators of a row in their order. */
@@ -50,11 +53,11 @@ typedef struct {
     void *before[BUFFERS];
 } trial;
 
-/* What is owed: the reply; of an accepted call the units that it needs, and every unit afterwards of what is written. Where the
- * result is judged, its words are not owed outright: judge says whether they do. */
+/* What is owed: the reply; of an accepted call the units that it needs; how many units of each buffer are written, and every one of
+ * these afterwards. Where the result is judged, its words are not owed outright: judge says whether they do. */
 typedef struct {
     uint64_t reply;
-    size_t needed[BUFFERS];
+    size_t needed[BUFFERS], written[BUFFERS];
     int judged;
     void *after[BUFFERS];
 } answer;
@@ -75,6 +78,7 @@ void decode(trial *t, const uint8_t *data, size_t size);
 void fill_table(reader *in, shape of, uint32_t *words);
 void fill_words(reader *in, uint32_t p, uint32_t *words, size_t count);
 void aim_pivots(reader *in, shape of, uint32_t *words);
+void aim_exchanges(reader *in, shape of, uint32_t *words);
 void aim_fractions(reader *in, shape one, shape two, uint32_t *first, uint32_t *second);
 void fill_spots(reader *in, shape of, uint32_t count_of_spots, uint32_t *words, size_t count);
 void fill_file(reader *in, trial *t);
@@ -98,6 +102,7 @@ extern const char *const call_names[CALLS];
 int uses(int call, int buffer);
 int is_written(int call, int buffer);
 int refuses(int call, int number);
+uint32_t largest_size(int call);
 size_t unit(int buffer);
 size_t needed_units(const trial *t, int buffer);
 uint64_t run_call(const trial *t, void *const *lent);
@@ -111,7 +116,9 @@ uint32_t entry(const table *t, uint32_t i, uint32_t j);
 void matrix_of(const table *t, uint32_t *matrix);
 void dense_sends(const uint32_t *matrix, uint32_t p, uint32_t n, const uint32_t *x, uint32_t *y);
 uint32_t dense_solve(uint32_t *matrix, uint32_t p, uint32_t n, uint32_t *column);
+uint32_t exchange_solve(uint32_t *matrix, uint32_t p, uint32_t n, uint32_t *column, uint32_t *exchanges);
 void sends(const table *t, const uint32_t *x, uint32_t *y);
+void column_of(const table *t, uint32_t j, uint32_t *y);
 
 /* A sweep of pivots: f before a row, then the row's pivot m, its v and y. */
 typedef struct {
@@ -119,6 +126,10 @@ typedef struct {
 } sweep;
 void meet_pivot(const table *t, uint32_t k, sweep *w);
 void leave_row(const table *t, uint32_t k, sweep *w);
+
+/* exchanges.c */
+uint32_t solve_whole(const trial *t, uint32_t *column, uint32_t *exchanges);
+uint32_t column_without(const trial *t);
 
 /* fractions.c */
 uint32_t bound_of(uint32_t p1, uint32_t p2);
@@ -133,7 +144,7 @@ table table_in(const trial *t, int buffer);
 uint32_t bad_row(const table *in);
 uint32_t bad_column_row(const trial *t);
 uint64_t refusal(const trial *t);
-uint64_t first_refusal(shape of, int buffer);
+uint64_t first_refusal(shape of, int buffer, uint32_t largest);
 uint32_t file_word(const uint8_t *file, size_t place);
 shape file_shape(const uint8_t *file);
 uint32_t follow(shape of, const uint8_t *file, uint32_t *numbers);
@@ -144,8 +155,9 @@ uint32_t zero_pivot(const trial *t);
 void work_out(const trial *t, answer *owed);
 int judge(const trial *t, const uint32_t *result);
 
-/* classes.c: a byte of seen for each class; those of fractions are the last. */
-#define CLASSES 17153u
+/* classes.c: a byte of seen for each class; those of the dense solve and of fractions are the last. */
+#define CLASSES 18578u
+#define WHOLE_CLASSES 172u
 #define FRACTION_CLASSES 864u
 void mark_classes(const trial *t, const answer *owed, uint8_t *seen);
 

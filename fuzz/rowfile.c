@@ -58,7 +58,7 @@ uint64_t file_refusal(const trial *t)
     if (bytes < 20)
         return packed(BAD_LENGTH, FILE_BYTES + 1, 0, 0);
     of = file_shape(file);
-    found = first_refusal(of, FILE_BYTES);
+    found = first_refusal(of, FILE_BYTES, LARGEST_SIZE);
     if (found != 0)
         return found;
     if (bytes != file_bytes(of))

@@ -10,8 +10,9 @@
  *
  * Every call takes any numbers and any buffers, each as a pointer and a count of words, or of bytes for a file, which may lie at
  * any address. A buffer that is written may overlap no other; two that are only read may be the same. A refusal leaves every
- * buffer as it was. Words and bytes past what a call needs are neither read nor written, but a file that is read has its exact
- * length. Calls share nothing, so they may run at the same time. C99, or C++.
+ * buffer as it was, with one exception: 7 from residues_solve_dense leaves zeros in the square. Words and bytes past what a call
+ * needs are neither read nor written, but a file that is read has its exact length. Calls share nothing, so they may run at the
+ * same time. C99, or C++.
  */
 #ifndef RESIDUES_H
 #define RESIDUES_H
@@ -20,9 +21,9 @@
 #include <stdint.h>
 
 /* The version, MAJOR.MINOR.PATCH. MAJOR is in the shared library's name. */
-#define RESIDUES_VERSION "1.1.0"
+#define RESIDUES_VERSION "1.2.0"
 #define RESIDUES_VERSION_MAJOR 1
-#define RESIDUES_VERSION_MINOR 1
+#define RESIDUES_VERSION_MINOR 2
 #define RESIDUES_VERSION_PATCH 0
 
 #ifdef __cplusplus
@@ -33,12 +34,12 @@ extern "C" {
 enum {
     RESIDUES_OK = 0,             /* accepted */
     RESIDUES_BAD_PRIME = 1,      /* p, or p1 or p2, is no prime from 2 to 2147483647 */
-    RESIDUES_BAD_SIZE = 2,       /* n is not 1 to 1024 */
+    RESIDUES_BAD_SIZE = 2,       /* n is not 1 to 1024, or for residues_solve_dense not 1 to 256 */
     RESIDUES_BAD_ORDER = 3,      /* an order above 8; beside it the table's buffer, or the file's */
     RESIDUES_SHORT_BUFFER = 4,   /* a buffer shorter than needed; beside it the lowest such buffer */
     RESIDUES_BAD_WORD = 5,       /* a word is not below its prime; beside it the lowest such buffer and its first such row; 0, 0: c */
     RESIDUES_BAD_ORDER_SUM = 6,  /* orders that add up to more than 8 */
-    RESIDUES_ZERO_PIVOT = 7,     /* a leading corner is singular; beside it 1 and the least such row */
+    RESIDUES_ZERO_PIVOT = 7,     /* a leading corner is singular; beside it 1 and the least such row; 1, 0: the whole matrix is (solve_dense) */
     RESIDUES_BAD_PLACE = 8,      /* i or j is not 1 to n */
     RESIDUES_BAD_LENGTH = 9,     /* a file under 20 bytes, or of the wrong length; beside it 6 */
     RESIDUES_BAD_CHAIN = 10,     /* a file's chain is wrong; beside it 6 and the rows read so far */
@@ -63,6 +64,11 @@ enum {
     RESIDUES_SECOND_RESIDUES = 2,
     RESIDUES_NUMERATORS = 4,
     RESIDUES_DENOMINATORS = 5
+};
+
+/* That of residues_solve_dense where residues_solve has work. */
+enum {
+    RESIDUES_SQUARE = 4
 };
 
 /* A reply taken apart. */
@@ -129,13 +135,24 @@ uint64_t residues_product(uint32_t p, uint32_t n, uint32_t r1, uint32_t s1, uint
 
 /* The column that the table sends to the given column, n words, to the result. Reads the table and the column. Work lends n * s
  * words, so it may be NULL and empty where s is 0; it is not read, and holds v of rows 1 to n - 1 afterwards, then s zeros.
- * Refuses 1, 2, 3, 4, 5, 7: 7 where the leading k by k corner is singular for some k, beside it 1 and the least such k. */
+ * Refuses 1, 2, 3, 4, 5, 7: 7 where the leading k by k corner is singular for some k, beside it 1 and the least such k. The matrix
+ * may still have an inverse: for n to 256 ask residues_solve_dense then. */
 uint64_t residues_solve(uint32_t p, uint32_t n, uint32_t r, uint32_t s,
                         const uint32_t *table, size_t table_len, const uint32_t *column, size_t column_len,
                         uint32_t *work, size_t work_len, uint32_t *result, size_t result_len);
 
+/* The same column for n to 256, also where a leading corner is singular and the whole matrix is not: n words, to the result. Reads
+ * the table and the column. Square lends n * n words; it is not read, and holds n * n zeros afterwards, on 7 as well, which is the
+ * one refusal that writes; every other leaves it, and each leaves the result. Refuses 1, 2, 3, 4, 5, 7: 2 where n is not 1 to 256;
+ * 7 where the whole matrix is singular, that is, sends some column, not all zeros, to zeros, beside it 1 and row 0. Else there is
+ * only one such column. Where residues_solve accepts too, both results are equal. It takes about n * n * n / 3 multiplications. */
+uint64_t residues_solve_dense(uint32_t p, uint32_t n, uint32_t r, uint32_t s,
+                              const uint32_t *table, size_t table_len, const uint32_t *column, size_t column_len,
+                              uint32_t *square, size_t square_len, uint32_t *result, size_t result_len);
+
 /* The table of the inverse matrix, of the same orders, to the result: as many words as the table has. Reads the table.
- * Refuses 1, 2, 3, 4, 5, 7, and 7 as above: also some matrices that have an inverse, and some tables that this call has written. */
+ * Refuses 1, 2, 3, 4, 5, 7, and 7 as residues_solve: also some matrices that have an inverse, and some tables that this call has
+ * written. */
 uint64_t residues_inverse(uint32_t p, uint32_t n, uint32_t r, uint32_t s,
                           const uint32_t *table, size_t table_len, uint32_t *result, size_t result_len);
 

@@ -19,10 +19,11 @@ import struct
 from fractions import Fraction
 
 # The library's version, which `set-version` puts here. The shared library's name has its first number.
-__version__ = "1.1.0"
+__version__ = "1.2.0"
 
 HOUSE_PRIME = 2147483647
 LARGEST_SIZE = 1024
+LARGEST_DENSE_SIZE = 256
 LARGEST_ORDER = 8
 HEAD_BYTES = 20
 
@@ -30,7 +31,7 @@ HEAD_BYTES = 20
 CAUSES = (
     ("OK", "accepted"),
     ("BAD_PRIME", "p, or p1 or p2, is no prime from 2 to 2147483647"),
-    ("BAD_SIZE", "n is not 1 to 1024"),
+    ("BAD_SIZE", "n is not 1 to 1024, or for solve_dense not 1 to 256"),
     ("BAD_ORDER", "an order is above 8"),
     ("SHORT_BUFFER", "a buffer is too short"),
     ("BAD_WORD", "a word is not below its prime"),
@@ -42,11 +43,12 @@ CAUSES = (
     ("EQUAL_PRIMES", "p1 and p2 are the same prime"),
     ("NO_FRACTION", "two residues have no fraction within the bound"),
 )
-BUFFERS = ("no buffer", "the table", "the second table", "the column", "work", "the result", "the file")
+WHOLE_SINGULAR = "the whole matrix is singular"  # what 7 means beside row 0
+BUFFERS = ("no buffer", "the table", "the second table", "the column", "work or the square", "the result", "the file")
 FRACTION_BUFFERS = {0: "no buffer", 1: "the first residues", 2: "the second residues", 4: "the numerators", 5: "the denominators"}
 
-_CALLS = ("entry", "matrix", "apply", "apply_transpose", "transpose", "multiple", "sum", "product", "solve", "inverse",
-          "read_file", "write_file", "fractions")
+_CALLS = ("entry", "matrix", "apply", "apply_transpose", "transpose", "multiple", "sum", "product", "solve", "solve_dense",
+          "inverse", "read_file", "write_file", "fractions")
 
 Table = collections.namedtuple("Table", "p n r s words")
 Head = collections.namedtuple("Head", "p n r s first")
@@ -58,6 +60,8 @@ class Refused(ValueError):
     def __init__(self, number, buffer, row, buffers=BUFFERS):
         self.number, self.buffer, self.row, self._buffers = number, buffer, row, buffers
         self.name, cause = CAUSES[number]
+        if (self.name, row) == ("ZERO_PIVOT", 0):
+            cause = WHOLE_SINGULAR
         super().__init__("refused %d, %s: %s (%s, row %d)" % (number, self.name, cause, buffers[buffer], row))
 
     def __reduce__(self):
@@ -138,6 +142,10 @@ def _words(name, words):
     return (ctypes.c_uint32 * len(checked)).from_buffer(checked)
 
 
+def _lent(**named):
+    return [_words(name, words) for name, words in named.items()]
+
+
 def _bytes(name, data):
     if not isinstance(data, (bytes, bytearray, memoryview)):
         raise BadArgument("%s is %r, no bytes" % (name, type(data)))
@@ -199,12 +207,12 @@ def matrix(p, n, r, s, table):
 
 def apply(p, n, r, s, table, column):
     """The table times the column."""
-    return _column_call("apply", _numbers(p=p, n=n, r=r, s=s), table, column)
+    return _column_call("apply", _numbers(p=p, n=n, r=r, s=s), *_lent(table=table, column=column))
 
 
 def apply_transpose(p, n, r, s, table, column):
     """The transposed table times the column."""
-    return _column_call("apply_transpose", _numbers(p=p, n=n, r=r, s=s), table, column)
+    return _column_call("apply_transpose", _numbers(p=p, n=n, r=r, s=s), *_lent(table=table, column=column))
 
 
 def transpose(p, n, r, s, table):
@@ -231,11 +239,25 @@ def product(p, n, r1, s1, r2, s2, first, second):
     return _table_call("product", numbers, (n, r1 + r2, s1 + s2), first=first, second=second)
 
 
-def solve(p, n, r, s, table, column):
-    """The column that the table sends to the given one."""
+def solve(p, n, r, s, table, column, *, dense=False):
+    """The column that the table sends to the given one. Refused 7 names the row where the least singular leading corner ends; the
+    matrix may have an inverse all the same. With dense=True and n to 256 solve_dense is asked then, and its answer or refusal is
+    what comes: refused 7 with row 0 where the whole matrix is singular, the first refusal being its __context__. Above 256 the first
+    refusal stands."""
     _, n, _, s = numbers = _numbers(p=p, n=n, r=r, s=s)
-    work = _blank(min(n, LARGEST_SIZE) * min(s, LARGEST_ORDER))
-    return _column_call("solve", numbers, table, column, work)
+    lent = _lent(table=table, column=column)
+    try:
+        return _column_call("solve", numbers, *lent, _blank(min(n, LARGEST_SIZE) * min(s, LARGEST_ORDER)))
+    except Refused as refused:
+        if not dense or refused.name != "ZERO_PIVOT" or n > LARGEST_DENSE_SIZE:
+            raise
+        return _dense_call(numbers, lent)
+
+
+def solve_dense(p, n, r, s, table, column):
+    """The same column for n to 256, also where a leading corner is singular. Refused 7, row 0, says that the whole matrix is singular:
+    no column is sent to the given one, or more than one is. About n * n * n / 3 multiplications, in n * n words."""
+    return _dense_call(_numbers(p=p, n=n, r=r, s=s), _lent(table=table, column=column))
 
 
 def inverse(p, n, r, s, table):
@@ -275,15 +297,21 @@ def fractions(p1, p2, xs, ys):
     return [Fraction(*parts) for parts in zip(numerators, denominators)]
 
 
-def _column_call(call, numbers, table, column, *work):
+def _column_call(call, numbers, *lent):
     """A call that writes a column."""
     result = _blank(min(numbers[1], LARGEST_SIZE))
-    _run(call, numbers, _words("table", table), _words("column", column), *work, result)
+    _run(call, numbers, *lent, result)
     return list(result)
+
+
+def _dense_call(numbers, lent):
+    """The dense solve, with a square of its own."""
+    side = min(numbers[1], LARGEST_DENSE_SIZE)
+    return _column_call("solve_dense", numbers, *lent, _blank(side * side))
 
 
 def _table_call(call, numbers, shape, **tables):
     """A call that writes a table of the shape: n, r, s."""
     result = _blank(table_words(*_limited(*shape)))
-    _run(call, numbers, *[_words(name, words) for name, words in tables.items()], result)
+    _run(call, numbers, *_lent(**tables), result)
     return list(result)

@@ -44,6 +44,7 @@ every_question() {
     for name in M spline two two_right house house_right many many_right one; do
         "$@" matrix "$tables/$name.txt"
         "$@" solution "$tables/$name.txt" "$tables/$name.column"
+        "$@" dense "$tables/$name.txt" "$tables/$name.column"
         "$@" inverse "$tables/$name.txt"
     done
     for pair in "M M" "spline spline" "two two_right" "house house_right" "many many_right" "one one"; do
@@ -56,9 +57,10 @@ owe_right() {
     right=$((right + 1))
 }
 
-# A table of one row has no other to be taken for it.
+# A table of one row has no other to be taken for it, and two_right is singular however it is read.
 owe_misreadings_wrong() {
     [ "$(basename "$2" .txt)" != one ] || return 0
+    [ "$1 $(basename "$2" .txt)" != "dense two_right" ] || return 0
     owe_wrong judge --heading "$@"
     owe_wrong judge --file-order "$@"
 }
@@ -70,6 +72,7 @@ owe_unnoticed_misreadings_wrong() {
         for option in --heading --file-order; do
             owe_wrong_unnoticed judge "$option" matrix "$tables/$name.txt"
             owe_wrong_unnoticed judge "$option" solution "$tables/$name.txt" "$tables/$name.column"
+            owe_wrong_unnoticed judge "$option" dense "$tables/$name.txt" "$tables/$name.column"
             owe_wrong_unnoticed judge "$option" inverse "$tables/$name.txt"
         done
     done
@@ -88,10 +91,20 @@ plant_faults() {
     for answer in "1 2 4" "8 2 3" "1 2" "1 2 3 0" "refused 7 1 3"; do
         owe_planted_wrong solution "$m" "$tables/M.column" <<< "$answer"
     done
+    for answer in "1 2 4" "8 2 3" "refused 7 1 0"; do
+        owe_planted_wrong dense "$m" "$tables/M.column" <<< "$answer"
+    done
+    for answer in "refused 7 1 2" "$(tr '\n' ' ' < "$tables/two_right.column")"; do
+        owe_planted_wrong dense "$singular" "$tables/two_right.column" <<< "$answer"
+    done
     owe_planted_wrong inverse "$singular" <<< "refused 7 1 1"
     owe_planted_wrong inverse "$singular" < "$singular"
     echo "7 2 1 1 1; 2 0 0 0 1 1 0 0; 0 0 1 0 0 0 0 1" > "$build/exchange"
     owe_planted_wrong inverse "$build/exchange" < "$build/exchange"
+    echo "3 5" > "$build/exchange.column"
+    judge - dense "$build/exchange" "$build/exchange.column"
+    owe_planted_wrong dense "$build/exchange" "$build/exchange.column" <<< "refused 7 1 0"
+    owe_planted_wrong dense "$build/exchange" "$build/exchange.column" <<< "3 5"
     judge - product "$tables/many.txt" "$tables/many_right.txt"
     owe_wrong "$dense_check" product "$tables/many_right.txt" "$tables/many.txt" "$build/answer"
     owe_planted_wrong product "$tables/one.txt" "$tables/one.txt" <<< "5 1 0 0 1; 0 4"

@@ -8,6 +8,12 @@ use std::hint::black_box;
 /// Both orders of each table.
 const ORDERS: [u32; 4] = [1, 2, 4, 8];
 
+/// N 1 shows the part of a call that does not grow: mostly the test that P is a prime.
+pub const SIZES: [u32; 5] = [1, 128, 256, 512, 1024];
+
+/// Those of the dense solve, which takes N to 256.
+pub const DENSE_SIZES: [u32; 4] = [1, 64, 128, 256];
+
 /// A call by one program on what it is lent: the value of its reply, 0 where it has none, or nothing where it is refused.
 pub type Run<T> = fn(&mut T) -> Option<u32>;
 
@@ -18,13 +24,14 @@ pub struct Call {
     pub leaves: Leaves,
 }
 
-/// The result: a table that joins two, of twice their order, a table of the same order, a column, the whole matrix, the value of
-/// the reply, a row file, or fractions, which have no orders.
+/// The result: a table that joins two, of twice their order, a table of the same order, a column, one that is worked out in a lent
+/// square, the whole matrix, the value of the reply, a row file, or fractions, which have no orders.
 #[derive(Clone, Copy, PartialEq)]
 pub enum Leaves {
     Joined,
     Table,
     Column,
+    Dense,
     Matrix,
     Value,
     File,
@@ -50,7 +57,7 @@ macro_rules! call {
     };
 }
 
-pub static CALLS: [Call; 13] = [
+pub static CALLS: [Call; 14] = [
     // The entry farthest from the diagonal.
     call!(entry, Value, l: l.p, l.n, l.order, l.order, l.n, 1, &l.first),
     call!(matrix, Matrix, l: l.p, l.n, l.order, l.order, &l.first, &mut l.result),
@@ -61,6 +68,7 @@ pub static CALLS: [Call; 13] = [
     call!(sum, Joined, l: l.p, l.n, l.order, l.order, l.order, l.order, &l.first, &l.second, &mut l.result),
     call!(product, Joined, l: l.p, l.n, l.order, l.order, l.order, l.order, &l.first, &l.second, &mut l.result),
     call!(solve, Column, l: l.p, l.n, l.order, l.order, &l.first, &l.column, &mut l.work, &mut l.result),
+    call!(solve_dense, Dense, l: l.p, l.n, l.order, l.order, &l.first, &l.column, &mut l.work, &mut l.result),
     call!(inverse, Table, l: l.p, l.n, l.order, l.order, &l.first, &mut l.result),
     call!(read_file, Table, l: &l.file, &mut l.result),
     call!(write_file, File, l: l.p, l.n, l.order, l.order, &l.first, &mut l.new_file),
@@ -86,13 +94,21 @@ impl Call {
         }
     }
 
-    /// What the time grows with: the entries of the whole matrix, else the rows.
+    /// The sizes that are timed.
+    pub fn sizes(&self) -> &'static [u32] {
+        match self.leaves {
+            Leaves::Dense => &DENSE_SIZES,
+            _ => &SIZES,
+        }
+    }
+
+    /// What the time grows with: about the products of the dense solve, the entries of the whole matrix, else the rows.
     pub fn units(&self, n: u32) -> f64 {
         let rows = n as f64;
-        if self.leaves == Leaves::Matrix {
-            rows * rows
-        } else {
-            rows
+        match self.leaves {
+            Leaves::Dense => rows * rows * rows / 3.0,
+            Leaves::Matrix => rows * rows,
+            _ => rows,
         }
     }
 }

@@ -4,7 +4,7 @@
 use crate::calls::{Call, Leaves, Run};
 use crate::goals::ORDER;
 use crate::lent::{Lent, P, Q};
-use crate::measure::{in_turn, median, time, SIZES};
+use crate::measure::{in_turn, median, time};
 use crate::report::Dense;
 use std::ffi::{c_char, c_int, CStr};
 use std::time::{Duration, Instant};
@@ -64,12 +64,12 @@ fn cases(call: &'static Call) -> Option<Vec<Case>> {
     let run: DenseRun = match call.name {
         "product" => dense_product,
         "apply" => dense_apply,
-        "solve" => dense_solve,
+        "solve" | "solve_dense" => dense_solve,
         "inverse" => dense_inverse,
-        "fractions" => return Some(SIZES[1..].iter().map(|&n| Case::fractions(call, n)).collect()),
+        "fractions" => return Some(call.sizes()[1..].iter().map(|&n| Case::fractions(call, n)).collect()),
         _ => return None,
     };
-    Some(SIZES[1..].iter().map(|&n| Case::dense(call, run, n)).collect())
+    Some(call.sizes()[1..].iter().map(|&n| Case::dense(call, run, n)).collect())
 }
 
 fn line(cases: &mut [Case]) -> Dense {
@@ -101,7 +101,7 @@ impl Case {
         let first = full(n, ORDER, &lent.first);
         let second = match call.leaves {
             Leaves::Joined => full(n, ORDER, &lent.second),
-            Leaves::Column => lent.column.clone(),
+            Leaves::Column | Leaves::Dense => lent.column.clone(),
             _ => first.clone(),
         };
         let columns = second.len() as u32 / n;

@@ -20,6 +20,7 @@ pub struct Lent {
     pub column: Vec<u32>,
     /// The row file of the first table, its records in the order of the rows.
     pub file: Vec<u8>,
+    /// The square too.
     pub work: Vec<u32>,
     pub numerators: Vec<i32>,
     /// Denominators too.
@@ -42,7 +43,7 @@ impl Lent {
             second: random.residues(words),
             column: random.residues(rows),
             factor: random.residue(),
-            work: vec![0; rows * order as usize],
+            work: vec![0; rows * if call.leaves == Leaves::Dense { rows } else { order as usize }],
             numerators: vec![0; if call.leaves == Leaves::Fractions { rows } else { 0 }],
             result: vec![0; result_words(call, rows, order)],
             new_file: vec![0; file.len()],
@@ -79,7 +80,7 @@ fn result_words(call: &Call, rows: usize, order: u32) -> usize {
     match call.leaves {
         Leaves::Joined => rows * row_words(2 * order),
         Leaves::Table => rows * row_words(order),
-        Leaves::Column | Leaves::Fractions => rows,
+        Leaves::Column | Leaves::Dense | Leaves::Fractions => rows,
         Leaves::Matrix => rows * rows,
         Leaves::Value | Leaves::File => 0,
     }

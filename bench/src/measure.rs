@@ -5,14 +5,11 @@ use crate::clock;
 use crate::lent::Lent;
 use std::time::{Duration, Instant};
 
-/// N 1 shows the part of a call that does not grow: mostly the test that P is a prime.
-pub const SIZES: [u32; 5] = [1, 128, 256, 512, 1024];
-
 /// A call on tables of one order, at every size.
 pub struct Case {
     pub call: &'static Call,
     pub order: u32,
-    lent: [Lent; SIZES.len()],
+    lent: Vec<Lent>,
 }
 
 /// At least so many rounds, for at least this time.
@@ -28,7 +25,8 @@ pub struct Pair {
     pub plain: f64,
 }
 
-type Round = [Pair; SIZES.len()];
+/// A pair for each size.
+type Round = Vec<Pair>;
 
 /// The rounds of a case.
 pub struct Times {
@@ -37,7 +35,7 @@ pub struct Times {
 
 impl Case {
     pub fn new(call: &'static Call, order: u32) -> Case {
-        Case { call, order, lent: SIZES.map(|n| Lent::new(call, n, order)) }
+        Case { call, order, lent: call.sizes().iter().map(|&n| Lent::new(call, n, order)).collect() }
     }
 
     /// Both programs accept, and leave the same words and the same value.
@@ -66,7 +64,7 @@ impl Case {
 
     /// Each program once at every size, the library first, then once more, the plain program first.
     fn round(&mut self) -> Round {
-        let mut round = Round::default();
+        let mut round = vec![Pair::default(); self.lent.len()];
         for library_first in [true, false] {
             for (pair, lent) in round.iter_mut().zip(&mut self.lent) {
                 let [library, plain] = in_turn(library_first, self.call.library, self.call.plain, |run| time(run, lent));
@@ -91,7 +89,7 @@ impl Times {
 
     /// The same at the last size.
     pub fn last_ratio(&self) -> f64 {
-        self.ratio(SIZES.len() - 1)
+        self.ratio(self.rounds[0].len() - 1)
     }
 
     /// The time at a size less that at N 1, for each unit that the time grows with.
@@ -105,8 +103,8 @@ impl Times {
     }
 }
 
-fn cost(round: &Round, size: usize, call: &Call, by: fn(&Pair) -> f64) -> f64 {
-    (by(&round[size]) - by(&round[0])) / call.units(SIZES[size])
+fn cost(round: &[Pair], size: usize, call: &Call, by: fn(&Pair) -> f64) -> f64 {
+    (by(&round[size]) - by(&round[0])) / call.units(call.sizes()[size])
 }
 
 /// What both programs take by the same means, in this order or the other.

@@ -1,8 +1,8 @@
 //! What was measured, as Markdown tables whose columns are also aligned for the terminal.
 
-use crate::calls::Call;
+use crate::calls::{Call, DENSE_SIZES, SIZES};
 use crate::goals::{self, ORDER};
-use crate::measure::{Pair, Times, SIZES};
+use crate::measure::{Pair, Times};
 
 /// A call by the library and by the plain program.
 pub struct Line {
@@ -27,30 +27,48 @@ impl Line {
 
 /// Ratios library / plain at each size, and the times of whole calls.
 pub fn print_ratios(lines: &[Line]) {
-    println!("\nRatios library / plain; times at N 1024, and of the part that does not grow, at N 1:\n");
-    let head = ["call", "N 128", "N 256", "N 512", "N 1024", "library", "plain", "library, N 1", "plain, N 1"];
-    print_table(&head, lines.iter().map(ratios_row).collect());
+    for (sizes, lines) in by_sizes(lines, |line| line.call) {
+        let last = sizes[sizes.len() - 1];
+        println!("\nRatios library / plain; times at N {last}, and of the part that does not grow, at N 1:\n");
+        let head = head(&sizes[1..], ["library", "plain", "library, N 1", "plain, N 1"]);
+        print_table(head, lines.into_iter().map(ratios_row).collect());
+    }
+}
+
+/// The lines of calls that are timed at the same sizes, the sizes of most calls first.
+fn by_sizes<T>(lines: &[T], call: fn(&T) -> &Call) -> Vec<(&'static [u32], Vec<&T>)> {
+    let of = |sizes: &'static [u32]| (sizes, lines.iter().filter(|line| call(line).sizes() == sizes).collect::<Vec<_>>());
+    [of(&SIZES), of(&DENSE_SIZES)].into_iter().filter(|(_, lines)| !lines.is_empty()).collect()
+}
+
+/// The head of a table: the call, a column for each size, and others.
+fn head(sizes: &[u32], others: impl IntoIterator<Item = impl Into<String>>) -> Vec<String> {
+    let sizes = sizes.iter().map(|n| format!("N {n}"));
+    ["call".into()].into_iter().chain(sizes).chain(others.into_iter().map(Into::into)).collect()
 }
 
 fn ratios_row(line: &Line) -> Vec<String> {
     let times = &line.times;
-    let ratios = (1..SIZES.len()).map(|size| format!("{:.2}", times.ratio(size)));
-    let last = SIZES.len() - 1;
+    let last = line.call.sizes().len() - 1;
+    let ratios = (1..=last).map(|size| format!("{:.2}", times.ratio(size)));
     let seconds = [(last, LIBRARY), (last, PLAIN), (0, LIBRARY), (0, PLAIN)].map(|(size, by)| duration(times.time(size, by)));
     [line.title()].into_iter().chain(ratios).chain(seconds).collect()
 }
 
-/// The cost a row at N 128, less the time at N 1, and at greater N as a ratio to it.
+/// The cost a row at the first size after N 1, less the time at N 1, and at greater N as a ratio to it.
 pub fn print_growth(lines: &[Line]) {
-    println!("\nTime a row (matrix: an entry; fractions: a place) less the time at N 1:");
-    println!("the library's at N 128, then ratios to that at N 128:\n");
-    let head = ["call", "N 128", "N 256", "N 512", "N 1024", "plain: N 256", "N 512", "N 1024"];
-    print_table(&head, lines.iter().map(growth_row).collect());
+    for (sizes, lines) in by_sizes(lines, |line| line.call) {
+        let (first, more) = (sizes[1], &sizes[2..]);
+        println!("\nTime a row (matrix: an entry; fractions: a place; solve_dense: a product) less the time at N 1:");
+        println!("the library's at N {first}, then ratios to that at N {first}:\n");
+        let plain = more.iter().enumerate().map(|(k, n)| format!("{}N {n}", if k == 0 { "plain: " } else { "" }));
+        print_table(head(&sizes[1..], plain), lines.into_iter().map(growth_row).collect());
+    }
 }
 
 fn growth_row(line: &Line) -> Vec<String> {
     let cost = format!("{:.1} ns", line.times.cost(1, line.call, LIBRARY) * 1e9);
-    let sizes = [LIBRARY, PLAIN].into_iter().flat_map(|by| (2..SIZES.len()).map(move |size| (size, by)));
+    let sizes = [LIBRARY, PLAIN].into_iter().flat_map(|by| (2..line.call.sizes().len()).map(move |size| (size, by)));
     let ratios = sizes.map(|(size, by)| format!("{:.2}", line.times.growth(size, line.call, by)));
     [line.title(), cost].into_iter().chain(ratios).collect()
 }
@@ -60,11 +78,13 @@ const PLAIN: fn(&Pair) -> f64 = |pair| pair.plain;
 
 /// Ratios FLINT / library at each size, and the times of whole calls.
 pub fn print_dense(version: &str, dense: &[Dense]) {
-    println!(
-        "\nFLINT {version} on the matrices in full, orders {ORDER}, and on residues; ratios FLINT / library; times at N 1024:\n"
-    );
-    let head = ["call", "N 128", "N 256", "N 512", "N 1024", "library", "FLINT"];
-    print_table(&head, dense.iter().map(dense_row).collect());
+    for (sizes, lines) in by_sizes(dense, |line| line.call) {
+        let last = sizes[sizes.len() - 1];
+        println!(
+            "\nFLINT {version} on the matrices in full, orders {ORDER}, and on residues; ratios FLINT / library; times at N {last}:\n"
+        );
+        print_table(head(&sizes[1..], ["library", "FLINT"]), lines.into_iter().map(dense_row).collect());
+    }
 }
 
 fn dense_row(line: &Dense) -> Vec<String> {
@@ -77,7 +97,7 @@ pub fn print_goals(lines: &[Line], dense: &[Dense]) {
     let rows = goals::rows(lines, dense);
     if !rows.is_empty() {
         println!("\nGoals, orders {ORDER}, N 1024:\n");
-        print_table(&["call", "ratio", "goal", "measured", ""], rows);
+        print_table(["call", "ratio", "goal", "measured", ""].map(String::from).into(), rows);
     }
 }
 
@@ -90,8 +110,7 @@ fn duration(seconds: f64) -> String {
 }
 
 /// The first column is set to the left, the others to the right.
-fn print_table(head: &[&str], rows: Vec<Vec<String>>) {
-    let head: Vec<String> = head.iter().map(|cell| cell.to_string()).collect();
+fn print_table(head: Vec<String>, rows: Vec<Vec<String>>) {
     let width = |column: usize| rows.iter().chain([&head]).map(|row| row[column].chars().count()).max().unwrap_or(0).max(2);
     let widths: Vec<usize> = (0..head.len()).map(width).collect();
     let rule = widths.iter().enumerate().map(|(column, &width)| match column {

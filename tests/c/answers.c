@@ -1,6 +1,7 @@
 /* The library's answers on tables as printed, for dense_check to judge; they go to standard output as decimal words.
  *     answers matrix TABLE
  *     answers solution TABLE COLUMN
+ *     answers dense TABLE COLUMN      the solution by the dense solve, for N to 256
  *     answers product FIRST SECOND FILE
  *     answers inverse TABLE FILE
  * A table that is written goes to FILE too, as bytes. A refusal prints "refused" and its three numbers. An option before the name
@@ -16,6 +17,7 @@
 #define ROWS 1024
 #define HEAD 5
 #define WORDS ((size_t)ROWS * 161)
+#define WORK ((size_t)256 * 256) /* as many as either solve may need */
 #define FILE_WORDS (HEAD + (size_t)ROWS * 162)
 
 typedef struct {
@@ -142,22 +144,37 @@ static void answer_matrix(char **paths)
     print_words(matrix, (size_t)first.n * first.n, first.n);
 }
 
+/* residues_solve, or another with the same parameters. */
+typedef uint64_t solver(uint32_t p, uint32_t n, uint32_t r, uint32_t s, const uint32_t *table, size_t table_len,
+                        const uint32_t *column, size_t column_len, uint32_t *work, size_t work_len, uint32_t *result,
+                        size_t result_len);
+
 /* The solution is applied to the same table, as a program that trusts its reader would: that check passes however the table was
  * misread. */
-static void answer_solution(char **paths)
+static void answer_by(solver *solve, char **paths)
 {
-    static uint32_t column[ROWS + 1], solution[ROWS], again[ROWS], work[8 * ROWS];
+    static uint32_t column[ROWS + 1], solution[ROWS], again[ROWS], work[WORK];
     const table *t = &first;
     read_table(paths[0], &first);
     if (read_print(paths[1], column, ROWS + 1) != t->n) {
         fail("a column of another length");
     }
-    owe_accepted(residues_solve(t->p, t->n, t->r, t->s, t->words, WORDS, column, t->n, work, 8 * ROWS, solution, ROWS));
+    owe_accepted(solve(t->p, t->n, t->r, t->s, t->words, WORDS, column, t->n, work, WORK, solution, ROWS));
     owe_accepted(residues_apply(t->p, t->n, t->r, t->s, t->words, WORDS, solution, t->n, again, ROWS));
     if (memcmp(again, column, t->n * sizeof(uint32_t)) != 0) {
         fail("the table does not send the solution to the column");
     }
     print_words(solution, t->n, t->n);
+}
+
+static void answer_solution(char **paths)
+{
+    answer_by(residues_solve, paths);
+}
+
+static void answer_dense(char **paths)
+{
+    answer_by(residues_solve_dense, paths);
 }
 
 static void answer_product(char **paths)
@@ -193,6 +210,7 @@ int main(int count, char **arguments)
         void (*answer)(char **paths);
     } answers[] = {{"matrix", 1, answer_matrix},
                    {"solution", 2, answer_solution},
+                   {"dense", 2, answer_dense},
                    {"product", 3, answer_product},
                    {"inverse", 2, answer_inverse}};
     if (count > 1 && strncmp(arguments[1], "--", 2) == 0) {
@@ -209,5 +227,5 @@ int main(int count, char **arguments)
             return 0;
         }
     }
-    fail("answers [--heading|--file-order] matrix|solution|product|inverse FILES");
+    fail("answers [--heading|--file-order] matrix|solution|dense|product|inverse FILES");
 }

@@ -16,7 +16,7 @@
 #define BUFFERS 6
 
 /* The buffers of a case in their order, and their numbers in a reply. Fractions lend residues as both tables, numerators as work
- * and denominators as result. */
+ * and denominators as result, and the square of the dense solve is its work. */
 enum { TABLE, SECOND, COLUMN, WORK, RESULT, FILE_BYTES };
 static const uint32_t number_of[BUFFERS] = {RESIDUES_TABLE, RESIDUES_SECOND_TABLE, RESIDUES_COLUMN, RESIDUES_WORK,
                                             RESIDUES_RESULT, RESIDUES_FILE};
@@ -98,6 +98,12 @@ static uint64_t run_solve(const numbers *x, const lent *b)
                           b[WORK].words, b[WORK].count, b[RESULT].words, b[RESULT].count);
 }
 
+static uint64_t run_solve_dense(const numbers *x, const lent *b)
+{
+    return residues_solve_dense(x->p, x->n, x->r, x->s, b[TABLE].words, b[TABLE].count, b[COLUMN].words, b[COLUMN].count,
+                                b[WORK].words, b[WORK].count, b[RESULT].words, b[RESULT].count);
+}
+
 static uint64_t run_inverse(const numbers *x, const lent *b)
 {
     return residues_inverse(x->p, x->n, x->r, x->s, b[TABLE].words, b[TABLE].count, b[RESULT].words, b[RESULT].count);
@@ -120,14 +126,15 @@ static uint64_t run_fractions(const numbers *x, const lent *b)
                               (int32_t *)b[WORK].words, b[WORK].count, b[RESULT].words, b[RESULT].count);
 }
 
-enum { ENTRY, MATRIX, APPLY, APPLY_TRANSPOSE, SOLVE, TRANSPOSE, MULTIPLE, INVERSE, SUM, PRODUCT, READ_FILE, WRITE_FILE, FRACTIONS,
-       CALLS };
+enum { ENTRY, MATRIX, APPLY, APPLY_TRANSPOSE, SOLVE, SOLVE_DENSE, TRANSPOSE, MULTIPLE, INVERSE, SUM, PRODUCT, READ_FILE, WRITE_FILE,
+       FRACTIONS, CALLS };
 static const call calls[CALLS] = {
     {"residues_entry", run_entry, {1, 0, 0, 0, 0, 0}},
     {"residues_matrix", run_matrix, {1, 0, 0, 0, 1, 0}},
     {"residues_apply", run_apply, {1, 0, 1, 0, 1, 0}},
     {"residues_apply_transpose", run_apply_transpose, {1, 0, 1, 0, 1, 0}},
     {"residues_solve", run_solve, {1, 0, 1, 1, 1, 0}},
+    {"residues_solve_dense", run_solve_dense, {1, 0, 1, 1, 1, 0}},
     {"residues_transpose", run_transpose, {1, 0, 0, 0, 1, 0}},
     {"residues_multiple", run_multiple, {1, 0, 0, 0, 1, 0}},
     {"residues_inverse", run_inverse, {1, 0, 0, 0, 1, 0}},
@@ -151,6 +158,11 @@ static inline int reads_file(const call *f)
 static inline int has_two_primes(const call *f)
 {
     return f == &calls[FRACTIONS];
+}
+
+static inline int has_square(const call *f)
+{
+    return f == &calls[SOLVE_DENSE];
 }
 
 static inline int is_written(const call *f, int buffer)
@@ -261,11 +273,11 @@ static inline uint32_t unit_after(const call *f, const problem *q, int buffer, s
     return is_written(f, buffer) && k < q->needed[buffer] ? given(f, q, buffer, k) : unit_before(f, q, buffer, k);
 }
 
-static void check_units(const call *f, const problem *q, const lent *b, int buffer, int accepted)
+static void check_units(const call *f, const problem *q, const lent *b, int buffer, int done)
 {
     size_t k;
     for (k = 0; k < b->count; k++) {
-        uint32_t owed = accepted ? unit_after(f, q, buffer, k) : unit_before(f, q, buffer, k);
+        uint32_t owed = done ? unit_after(f, q, buffer, k) : unit_before(f, q, buffer, k);
         uint32_t came = buffer == FILE_BYTES ? b->file[k] : b->words[k];
         if (came != owed) {
             printf("buffer %u, word or byte %lu: owed %u, came %u\n", number_of[buffer], (unsigned long)k, owed, came);
@@ -308,6 +320,13 @@ static void check_reply(uint64_t reply, uint64_t owed)
     fail("a wrong reply");
 }
 
+/* Whether a buffer is as after an accepted call: a square is so too where the matrix is singular. */
+static int is_done(const call *f, int buffer, uint64_t owed)
+{
+    const uint32_t number = residues_number(owed);
+    return number == RESIDUES_OK || (number == RESIDUES_ZERO_PIVOT && has_square(f) && buffer == WORK);
+}
+
 /* Runs a call on counts of words and bytes; a count of 0 may be NULL. */
 static void try_counts(const call *f, const problem *q, const size_t *counts, int as_null, int at_end, uint64_t owed)
 {
@@ -324,7 +343,7 @@ static void try_counts(const call *f, const problem *q, const size_t *counts, in
     note(f, &q->x, b, at_end);
     check_reply(f->run(&q->x, handed), owed);
     for (buffer = 0; buffer < BUFFERS; buffer++) {
-        check_units(f, q, &b[buffer], buffer, residues_number(owed) == RESIDUES_OK);
+        check_units(f, q, &b[buffer], buffer, is_done(f, buffer, owed));
         give_back(&b[buffer]);
     }
     passed++;
@@ -383,7 +402,7 @@ static void try_refused(const call *f, const problem *q, uint64_t owed)
 static void try_primes_and_sizes(const call *f, const problem *q)
 {
     static const uint32_t wrong_p[] = {0, 1, 4, 9, 2047, 2147483648u, 4294967295u};
-    static const uint32_t wrong_n[] = {0, 1025, 65536, 1073741824u, 4294967295u};
+    static const uint32_t wrong_n[] = {257, 1024, 0, 1025, 65536, 1073741824u, 4294967295u};
     problem wrong = *q;
     size_t k;
     for (k = reads_file(f) ? 1 : 0; k < COUNT(wrong_p); k++, wrong = *q) {
@@ -398,7 +417,7 @@ static void try_primes_and_sizes(const call *f, const problem *q)
     wrong.x.p2 = wrong.x.p;
     if (has_two_primes(f))
         try_refused(f, &wrong, refusal(RESIDUES_EQUAL_PRIMES, 0, 0));
-    for (k = 0, wrong = *q; k < COUNT(wrong_n); k++, wrong = *q) {
+    for (k = has_square(f) ? 0 : 2, wrong = *q; k < COUNT(wrong_n); k++, wrong = *q) {
         wrong.x.n = wrong_n[k];
         try_refused(f, &wrong, refusal(RESIDUES_BAD_SIZE, 0, 0));
     }
@@ -435,6 +454,13 @@ static void try_numbers(const call *f, const problem *q)
         *(k % 2 == 0 ? &wrong.x.i : &wrong.x.j) = k < 2 ? 0 : q->x.n + 1;
         try_refused(f, &wrong, refusal(RESIDUES_BAD_PLACE, 0, 0));
     }
+}
+
+static uint32_t *room(size_t count)
+{
+    uint32_t *words = calloc(count + 1, sizeof *words);
+    check(words != NULL, "no memory");
+    return words;
 }
 
 /* A word that is not below the prime: the last d of a table, the last of the column, and c. */
@@ -479,7 +505,7 @@ static problem problem_of(int which, numbers x, const uint32_t *table, const uin
     q.words[RESULT] = result;
     q.needed[TABLE] = residues_table_words(x.n, x.r, x.s);
     q.needed[COLUMN] = x.n;
-    q.needed[WORK] = (size_t)x.n * x.s;
+    q.needed[WORK] = (size_t)x.n * (which == SOLVE_DENSE ? x.n : x.s);
     q.needed[FILE_BYTES] = residues_file_bytes(x.n, x.r, x.s);
     q.needed[RESULT] = which == MATRIX ? (size_t)x.n * x.n : which < TRANSPOSE ? x.n : q.needed[TABLE];
     q.value = value;
@@ -493,7 +519,7 @@ static void try_problem(int which, numbers x, const uint32_t *table, const uint3
     try_whole(&calls[which], &q);
 }
 
-/* Refused only after every word is known: neither work nor result is written. */
+/* Refused only after every word is known: neither work nor result is written, but for a square. */
 static void try_late_refusal(const call *f, const problem *wrong, uint64_t owed)
 {
     size_t longer[BUFFERS];
@@ -507,7 +533,7 @@ static void try_late_refusal(const call *f, const problem *wrong, uint64_t owed)
     try_counts(f, wrong, wrong->needed, 1, 1, owed);
 }
 
-/* The table with another d in a row, whose pivot is then zero. */
+/* The table with another d in a row, whose pivot is then zero, and with it the whole matrix singular where there is a square. */
 static void try_singular(const call *f, const problem *q, uint32_t row, uint32_t d)
 {
     problem wrong = *q;
@@ -517,7 +543,7 @@ static void try_singular(const call *f, const problem *q, uint32_t row, uint32_t
     memcpy(words, q->words[TABLE], count * sizeof *words);
     words[count / q->x.n * (row - 1)] = d;
     wrong.words[TABLE] = words;
-    try_late_refusal(f, &wrong, refusal(RESIDUES_ZERO_PIVOT, RESIDUES_TABLE, row));
+    try_late_refusal(f, &wrong, refusal(RESIDUES_ZERO_PIVOT, RESIDUES_TABLE, has_square(f) ? 0 : row));
     free(words);
 }
 
@@ -529,6 +555,16 @@ static void try_regular(int which, numbers x, const uint32_t *table, const uint3
     try_whole(&calls[which], &q);
     try_singular(&calls[which], &q, 1, 0);
     try_singular(&calls[which], &q, x.n, last_d);
+}
+
+/* A regular matrix, of which last_d in the last row makes a singular one. */
+static void try_square(numbers x, const uint32_t *table, const uint32_t *column, const uint32_t *solution, uint32_t last_d)
+{
+    uint32_t *zeros = room((size_t)x.n * x.n);
+    const problem q = problem_of(SOLVE_DENSE, x, table, column, zeros, solution, 0);
+    try_whole(&calls[SOLVE_DENSE], &q);
+    try_singular(&calls[SOLVE_DENSE], &q, x.n, last_d);
+    free(zeros);
 }
 
 /* One buffer, which may not be written, as both tables. */
@@ -678,6 +714,7 @@ static void file_m(void)
     try_problem(TRANSPOSE, x, table, column, transposed, 0);
     try_problem(MULTIPLE, x, table, column, tripled, 0);
     try_regular(SOLVE, x, table, applied, work, column, 1);
+    try_square(x, table, applied, column, 1);
     try_regular(INVERSE, x, table, NULL, NULL, inverse, 1);
     try_pair(SUM, x, table, table, twice);
     try_pair(PRODUCT, x, table, table, square);
@@ -685,13 +722,6 @@ static void file_m(void)
 }
 
 /* ---- tables of any size whose matrix is known ---- */
-
-static uint32_t *room(size_t count)
-{
-    uint32_t *words = calloc(count + 1, sizeof *words);
-    check(words != NULL, "no memory");
-    return words;
-}
 
 static uint32_t *put(uint32_t *w, size_t count, uint32_t word)
 {
@@ -956,6 +986,52 @@ static void known_pair(uint32_t n, uint32_t r1, uint32_t s1, uint32_t r2, uint32
     free(result);
 }
 
+/* ---- the dense solve ---- */
+
+/* Row 3 on top of rows 1 and 2, whose first pivot only the last row has, modulo 2 and the largest prime; then zeros alone. */
+static void small_squares(void)
+{
+    static const uint32_t rows[] = {0, 9, 9, 1, 1, 9, 9, 0, 0, 1, 0, 1, 0, 1, 0, 1, 9, 9, 9, 9, 1};
+    static const uint32_t bits[] = {0, 1, 1}, solved_bits[] = {1, 0, 1}, column[] = {P - 1, 5, 3}, solution[] = {3, P - 1, 5};
+    static const uint32_t zeros[9] = {0};
+    const numbers shift = {2, 3, 1, 1, 1, 1, 1, 0, 0, 0}, none = {P, 3, 0, 0, 1, 1, 1, 0, 0, 0};
+    const problem singular = problem_of(SOLVE_DENSE, none, zeros, column, zeros, solution, 0);
+    problem q = problem_of(SOLVE_DENSE, shift, rows, bits, zeros, solved_bits, 0);
+    try_whole(&calls[SOLVE_DENSE], &q);
+    q.x.p = P;
+    q.words[COLUMN] = column;
+    q.words[RESULT] = solution;
+    try_whole(&calls[SOLVE_DENSE], &q);
+    try_late_refusal(&calls[SOLVE_DENSE], &singular, refusal(RESIDUES_ZERO_PIVOT, RESIDUES_TABLE, 0));
+}
+
+/* d 5, p 2, g 3, solved for ones. Then the first d is 0: the first corner is singular, the matrix only where it is triangular. */
+static void known_square(uint32_t n, uint32_t r, uint32_t s)
+{
+    const numbers x = {P, n, r, s, 1, 1, 1, 0, 0, 0};
+    uint32_t *table = room(residues_table_words(n, r, s)), *ones = room(n), *column = room(n), *zeros = room((size_t)n * n), i;
+    const problem q = problem_of(SOLVE_DENSE, x, table, column, zeros, ones, 0);
+    swept *rows = calloc(n, sizeof *rows);
+    check(rows != NULL, "no memory");
+    sweep(rows, x);
+    fill(table, x, 5, 2, 1, 3, 1, 4294967295u);
+    put(ones, n, 1);
+    for (i = 1; i <= n; i++)
+        column[i - 1] = 5 + (i - 1) * 2 * r + (n - i) * 3 * s;
+    try_square(x, table, column, ones, minus(5, rows[n - 1].m));
+    table[0] = 0;
+    column[0] -= 5;
+    if (n == 1 || r == 0 || s == 0)
+        try_late_refusal(&calls[SOLVE_DENSE], &q, refusal(RESIDUES_ZERO_PIVOT, RESIDUES_TABLE, 0));
+    else
+        try_whole(&calls[SOLVE_DENSE], &q);
+    free(table);
+    free(ones);
+    free(column);
+    free(zeros);
+    free(rows);
+}
+
 /* ---- fractions ---- */
 
 /* A place with the residues of the whole number bound + 1, which no fraction within the bound has. */
@@ -1058,6 +1134,15 @@ int main(void)
     known_pair(1024, 1, 1, 1, 1);
     known_pair(1024, 4, 4, 4, 4);
     known_pair(1024, 3, 6, 5, 2);
+    small_squares();
+    known_square(1, 0, 0);
+    known_square(1, 1, 2);
+    known_square(2, 3, 1);
+    known_square(3, 2, 0);
+    known_square(3, 0, 2);
+    known_square(9, 3, 8);
+    known_square(255, 1, 1);
+    known_square(256, 8, 8);
     small_fractions();
     halves(5, 3, 1, 2);
     halves(101, 103, 2, 72);

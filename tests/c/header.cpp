@@ -24,6 +24,24 @@ static bool fractions_are_right()
            residues_buffer(short_denominators) == RESIDUES_DENOMINATORS;
 }
 
+// Two rows exchanged modulo 5, whose first corner is singular; zeros, and a square too short by its name.
+static bool dense_solution_is_right()
+{
+    const uint32_t exchange[] = {0, 0, 0, 1, 1, 0, 0, 0, 1, 0, 0, 0, 0, 1}, zeros[] = {0, 0}, column[] = {2, 3};
+    uint32_t work[2], square[4] = {1, 1, 1, 1}, solution[2];
+    const uint64_t corner = residues_solve(5, 2, 1, 1, exchange, 14, column, 2, work, 2, solution, 2);
+    const uint64_t short_square = residues_solve_dense(5, 2, 1, 1, exchange, 14, column, 2, square, 3, solution, 2);
+    const uint64_t solved = residues_solve_dense(5, 2, 1, 1, exchange, 14, column, 2, square, 4, solution, 2);
+    const uint64_t singular = residues_solve_dense(5, 2, 0, 0, zeros, 2, column, 2, square, 4, solution, 2);
+    const uint64_t large = residues_solve_dense(5, 257, 0, 0, nullptr, 0, nullptr, 0, nullptr, 0, nullptr, 0);
+    const bool is_solved = residues_number(solved) == RESIDUES_OK && solution[0] == 3 && solution[1] == 2 && square[0] == 0 &&
+                           square[1] == 0 && square[2] == 0 && square[3] == 0;
+    const bool is_refused = residues_number(corner) == RESIDUES_ZERO_PIVOT && residues_row(corner) == 1 &&
+                            residues_number(singular) == RESIDUES_ZERO_PIVOT && residues_row(singular) == 0 &&
+                            residues_number(large) == RESIDUES_BAD_SIZE;
+    return is_solved && is_refused && residues_buffer(short_square) == RESIDUES_SQUARE;
+}
+
 int main()
 {
     const uint32_t diagonal[] = {2, 3};
@@ -47,5 +65,5 @@ int main()
     const bool is_read = residues_number(read) == RESIDUES_OK && residues_value(read) == 5 && table[0] == 2 && table[1] == 3;
     const bool files_are_right = is_written && is_read;
     const bool tables_are_right = entry_is_3 && sum_is_4_1 && product_is_4_4 && solution_is_1_1 && inverse_is_3_2;
-    return tables_are_right && files_are_right && fractions_are_right() ? 0 : 1;
+    return tables_are_right && files_are_right && fractions_are_right() && dense_solution_is_right() ? 0 : 1;
 }

@@ -59,11 +59,12 @@ impl Buffer {
     }
 }
 
-/// A fault that was planted, in the order of planting: pivots and places without a fraction are made of sound words, numbers go out
-/// of limits last, and only then a file loses its head.
+/// A fault that was planted, in the order of planting: pivots, singular matrices and places without a fraction are made of sound
+/// words, numbers go out of limits last, and only then a file loses its head.
 #[derive(Clone, Copy, PartialEq, Eq, PartialOrd, Ord, Debug)]
 pub enum Fault {
     Pivot,
+    Singular,
     Fraction,
     Word(u32),
     Short(u32),
@@ -137,6 +138,11 @@ impl Case {
 
     pub fn buffer_mut(&mut self, number: u32) -> &mut Buffer {
         self.buffers.iter_mut().find(|buffer| buffer.number == number).expect("the call has this buffer")
+    }
+
+    /// Whether a square is lent beside the result.
+    pub fn is_dense(&self) -> bool {
+        self.buffers.iter().any(|buffer| (buffer.number, buffer.holds) == (4, Holds::Square))
     }
 
     /// The words of a column that is read.

@@ -2,6 +2,7 @@
 
 use crate::calls::{Call, Number};
 use crate::case::{Buffer, Case, Fault, Holds};
+use crate::dense::Table;
 use crate::faults;
 use crate::layout::Shape;
 use crate::random::Random;
@@ -14,7 +15,7 @@ const PRIMES: [u32; 7] = [2, 3, 5, 7, 101, 2_147_483_629, LARGEST_PRIME];
 /// A case for a call: sound for half of the seeds, else with one to three faults. At times pivots are as they come.
 pub fn draw(call: &Call, random: &mut Random) -> Case {
     let mut case = sound(call, random);
-    if call.pivots && random.once_in(5) {
+    if (call.pivots || call.is_dense()) && random.once_in(5) {
         case.buffer_mut(1).words = draw_table(case.p, case.shape(0), random);
     }
     add_surplus(&mut case, random);
@@ -35,9 +36,10 @@ pub fn with_faults(mut case: Case, faults: Vec<Fault>, random: &mut Random) -> C
     case
 }
 
-/// All numbers within limits, all buffers exact, no zero pivot and no place without a fraction where a call would refuse it.
+/// All numbers within limits, all buffers exact, no zero pivot, no singular matrix and no place without a fraction where a call
+/// would refuse it.
 pub fn sound(call: &Call, random: &mut Random) -> Case {
-    let (p, n) = (draw_prime(random), draw_size(random));
+    let (p, n) = (draw_prime(random), draw_size(call.largest_size(), random));
     let orders = draw_orders(call.tables, n, random);
     let mut case = Case { p, q: 1, n, orders, place: (1, 1), c: 1, buffers: vec![], faults: vec![] };
     match call.number {
@@ -54,6 +56,9 @@ pub fn sound(call: &Call, random: &mut Random) -> Case {
     if call.pivots {
         let (p, shape) = (case.p, case.shape(0));
         make_regular(p, shape, &mut case.buffer_mut(1).words, random);
+    }
+    if call.is_dense() {
+        make_dense_regular(&mut case, random);
     }
     if call.number == Number::Prime {
         make_fractions(&mut case, random);
@@ -80,15 +85,15 @@ pub fn draw_other_prime(p: u32, random: &mut Random) -> u32 {
     std::iter::repeat_with(|| draw_prime(random)).find(|&q| q != p).expect("there is another prime")
 }
 
-/// Mostly small, at times up to 1,024.
-fn draw_size(random: &mut Random) -> u32 {
+/// Mostly small, at times up to the largest.
+fn draw_size(largest: u32, random: &mut Random) -> u32 {
     match random.below(600) {
         0..=199 => random.between(1, 3),
         200..=499 => random.between(4, 12),
         500..=594 => random.between(13, 40),
         595..=597 => random.between(41, 100),
-        598 => random.between(64, 1023),
-        _ => 1024,
+        598 => random.between(64, largest - 1),
+        _ => largest,
     }
 }
 
@@ -245,6 +250,33 @@ pub fn make_regular(p: u32, shape: Shape, words: &mut [u32], random: &mut Random
     choose_pivots(p, shape, words, |_, m| if m == 0 { random.between(1, p - 1) } else { m });
 }
 
+/// Changes d's so that the first zero pivot is at row k; the rows after it are as they were.
+pub fn make_zero_pivot(p: u32, shape: Shape, words: &mut [u32], k: usize, random: &mut Random) {
+    let pivot = |row: usize, m: u32| match m {
+        _ if row == k => 0,
+        0 => random.between(1, p - 1),
+        _ => m,
+    };
+    choose_pivots(p, shape, words, pivot);
+}
+
+/// Mostly takes a table with a singular corner whose matrix is regular, if one of a few draws is such, else changes d's until every
+/// corner is regular.
+fn make_dense_regular(case: &mut Case, random: &mut Random) {
+    let (p, shape) = (case.p, case.shape(0));
+    let draws = if shape.n > 40 { 2 } else { 8 };
+    for _ in 0..if random.once_in(3) { 0 } else { draws } {
+        let mut words = draw_table(p, shape, random);
+        let row = random.between(1, case.n) as usize;
+        make_zero_pivot(p, shape, &mut words, row, random);
+        if (Table { p, shape, words: &words }).matrix().rank() == shape.n {
+            case.buffer_mut(1).words = words;
+            return;
+        }
+    }
+    make_regular(p, shape, &mut case.buffer_mut(1).words, random);
+}
+
 /// Changes all residues to those of fractions.
 fn make_fractions(case: &mut Case, random: &mut Random) {
     let primes = case.primes();
@@ -252,7 +284,7 @@ fn make_fractions(case: &mut Case, random: &mut Random) {
 }
 
 /// Idle words: residues, zeros, the prime itself, or any words.
-fn fill_idle(words: &mut [u32], p: u32, shape: Shape, random: &mut Random) {
+pub fn fill_idle(words: &mut [u32], p: u32, shape: Shape, random: &mut Random) {
     let style = random.below(5);
     for place in [1, shape.n].into_iter().flat_map(|k| shape.idle_places(k)) {
         match style {

@@ -6,6 +6,7 @@ use crate::refusals::{Reply, LARGEST_PRIME};
 use crate::tally::Tally;
 use crate::trial::{compare, owed};
 
+mod dense;
 mod files;
 mod fractions;
 mod solved;
@@ -43,6 +44,7 @@ pub fn run(tally: &mut Tally) -> Result<(), String> {
     examples.one_table_as_column()?;
     examples.on_two_tables()?;
     examples.of_pivots()?;
+    examples.of_dense_solve()?;
     examples.of_files()?;
     examples.of_fractions()
 }

@@ -2,6 +2,9 @@
 
 use crate::calls::{Call, Number};
 use crate::case::{Case, Fault, Holds};
+use crate::cases::make_zero_pivot;
+use crate::dense::Table;
+use crate::layout::{Kind, Shape};
 use crate::random::Random;
 use crate::refusals::{is_prime, LARGEST_PRIME};
 use crate::swept::choose_pivots;
@@ -38,6 +41,9 @@ pub fn all(call: &Call) -> Vec<Fault> {
     if call.pivots {
         faults.push(Fault::Pivot);
     }
+    if call.is_dense() {
+        faults.push(Fault::Singular);
+    }
     faults
 }
 
@@ -60,12 +66,16 @@ pub fn plant(case: &mut Case, fault: Fault, random: &mut Random) {
 fn plant_in_call(case: &mut Case, fault: Fault, random: &mut Random) {
     match fault {
         Fault::Pivot => plant_pivot(case, random),
+        Fault::Singular => plant_singular(case, random),
         Fault::Fraction => plant_without(case, random),
         Fault::Prime => case.p = draw_no_prime(random),
         Fault::SecondPrime => case.q = draw_no_prime(random),
         // what was planted as the second prime stays
         Fault::EqualPrimes if is_prime(case.q) => case.q = case.p,
         Fault::EqualPrimes => case.p = case.q,
+        Fault::Size if case.is_dense() => {
+            case.n = random.one_of(&[0, 257, 257, 258, 512, 1_024, 1_025, 65_537, 0x8000_0000, u32::MAX])
+        }
         Fault::Size => case.n = random.one_of(&[0, 0, 1_025, 1_025, 1_026, 2_048, 65_536, 65_537, 0x8000_0000, u32::MAX]),
         Fault::Orders(which) => plant_order(&mut case.orders[which], random),
         Fault::OrderSums => plant_order_sums(case, random),
@@ -133,6 +143,42 @@ fn cut(case: &mut Case, number: u32, random: &mut Random) {
 fn plant_pivot(case: &mut Case, random: &mut Random) {
     let (p, shape, row) = (case.p, case.shape(0), draw_row(case.n, random) as usize);
     choose_pivots(p, shape, &mut case.buffer_mut(1).words, |k, m| if k == row { 0 } else { m });
+}
+
+fn plant_singular(case: &mut Case, random: &mut Random) {
+    let (p, shape, way) = (case.p, case.shape(0), random.below(SINGULAR_WAYS));
+    make_singular(p, shape, &mut case.buffer_mut(1).words, way, random);
+}
+
+/// In so many ways a table's matrix is made singular.
+pub const SINGULAR_WAYS: usize = 5;
+
+/// Only the last pivot is zero; a row is zero; a column is; two rows are the same; or all entries are zero.
+pub fn make_singular(p: u32, shape: Shape, words: &mut [u32], way: usize, random: &mut Random) {
+    let row = draw_row(shape.n as u32, random) as usize;
+    let mut clear = |kind: Kind, k: usize| words[shape.places(kind, k)].fill(0);
+    match way {
+        0 => make_zero_pivot(p, shape, words, shape.n, random),
+        1 => [Kind::D, Kind::P, Kind::G].into_iter().for_each(|kind| clear(kind, row)),
+        2 => [Kind::D, Kind::Q, Kind::H].into_iter().for_each(|kind| clear(kind, row)),
+        3 if shape.n > 1 => make_twins(p, shape, words, row.min(shape.n - 1)),
+        _ => (1..=shape.n).for_each(|k| [Kind::D, Kind::P, Kind::G].into_iter().for_each(|kind| clear(kind, k))),
+    }
+}
+
+/// Makes row k of the matrix the one after it: the diagonal's entries, p of the row and g of the next follow from the other words.
+fn make_twins(p: u32, shape: Shape, words: &mut [u32], k: usize) {
+    let table = Table { p, shape, words };
+    let of = |kind, k| table.generator(kind, k);
+    let made = [
+        (Kind::D, k, of(Kind::P, k + 1).times(&of(Kind::Q, k))),
+        (Kind::P, k, of(Kind::P, k + 1).times(&of(Kind::A, k))),
+        (Kind::D, k + 1, of(Kind::G, k).times(&of(Kind::H, k + 1))),
+        (Kind::G, k + 1, of(Kind::G, k).times(&of(Kind::B, k + 1))),
+    ];
+    for (kind, k, block) in made.into_iter().filter(|&(kind, k, _)| !shape.is_idle(kind, k)) {
+        words[shape.places(kind, k)].copy_from_slice(&block.residues);
+    }
 }
 
 /// Gives one to three places residues without a fraction: the first, the last, or any.

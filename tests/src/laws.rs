@@ -2,15 +2,17 @@
 
 use crate::block::sum_of_two;
 use crate::calls::{apply, inverse, multiple, product, solve, sum, transpose, Answer, Call};
-use crate::case::{Buffer, Case, Holds};
+use crate::case::{Buffer, Case, Fault, Holds};
 use crate::cases;
 use crate::dense::{Matrix, Table, LITERAL_SIZE};
+use crate::faults;
 use crate::layout::Shape;
 use crate::random::Random;
 use crate::refusals::{LARGEST_ORDER, LARGEST_PRIME};
 use crate::tally::Tally;
-use crate::trial::{compare, ended, only_accepted};
+use crate::trial::{compare, ended, only_accepted, trial};
 
+mod dense;
 mod drawn;
 mod files;
 mod fractions;
@@ -26,7 +28,7 @@ pub struct Law {
     run: fn(&mut Laws) -> Result<(), String>,
 }
 
-pub const LAWS: [Law; 41] = [
+pub const LAWS: [Law; 51] = [
     Law { name: "groupings", times: 180, run: Laws::groupings },
     Law { name: "product_by_sum", times: 200, run: Laws::product_by_sum },
     Law { name: "multiples", times: 200, run: Laws::multiples },
@@ -68,6 +70,16 @@ pub const LAWS: [Law; 41] = [
     Law { name: "places_without", times: 70, run: Laws::places_without },
     Law { name: "bad_residues", times: 60, run: Laws::bad_residues },
     Law { name: "fault_sets", times: fractions::FAULT_SETS, run: Laws::fault_sets },
+    Law { name: "dense_small", times: small::PARTS, run: Laws::dense_small },
+    Law { name: "dense_permutations", times: dense::PERMUTATIONS, run: Laws::dense_permutations },
+    Law { name: "dense_products", times: 3_000, run: Laws::dense_products },
+    Law { name: "dense_products_large", times: 32, run: Laws::dense_products_large },
+    Law { name: "dense_singular", times: dense::SINGULAR, run: Laws::dense_singular },
+    Law { name: "dense_beside_solve", times: 2_100, run: Laws::dense_beside_solve },
+    Law { name: "dense_beside_solve_large", times: 24, run: Laws::dense_beside_solve_large },
+    Law { name: "dense_influence", times: 300, run: Laws::dense_influence },
+    Law { name: "dense_rooms", times: 60, run: Laws::dense_rooms },
+    Law { name: "dense_fault_sets", times: dense::FAULT_SETS, run: Laws::dense_fault_sets },
 ];
 
 impl Law {
@@ -278,6 +290,21 @@ impl Laws {
     fn answers(&mut self, call: &Call, case: &Case, owed: &Answer) -> Result<(), String> {
         compare(call, case, owed)?;
         self.tally.record(call, case, owed.reply);
+        Ok(())
+    }
+
+    /// The set of faults that belongs to the trial's number, of all sets, planted in a case of its own.
+    fn fault_set(&mut self, call: &Call, sets: u64) -> Result<(), String> {
+        let all = faults::all(call);
+        assert_eq!(1 << all.len(), sets);
+        let mut faults: Vec<Fault> =
+            (0..all.len()).filter(|place| self.number >> place & 1 == 1).map(|place| all[place]).collect();
+        faults.sort();
+        let mut case = cases::sound(call, &mut self.random);
+        cases::add_surplus(&mut case, &mut self.random);
+        let case = cases::with_faults(case, faults, &mut self.random);
+        let reply = trial(call, &case)?;
+        self.tally.record(call, &case, reply);
         Ok(())
     }
 

@@ -47,7 +47,7 @@ fn two_primes(p: u32, tally: &mut Tally) -> Result<(), String> {
 }
 
 fn sizes(call: &Call, tally: &mut Tally) -> Result<(), String> {
-    let sizes = (0..=20).chain(1_015..=1_034).chain([2_048, 65_536, 65_537, 66_560, 1 << 31, u32::MAX]);
+    let sizes = (0..=20).chain(250..=262).chain(1_015..=1_034).chain([2_048, 65_536, 65_537, 66_560, 1 << 31, u32::MAX]);
     for n in sizes {
         check(call, zeros(call, 7, n, &vec![0; 2 * call.tables]), tally)?;
     }
@@ -74,8 +74,8 @@ fn orders(call: &Call, tally: &mut Tally) -> Result<(), String> {
     Ok(())
 }
 
-/// Zero matrices, or identities where a zero pivot is refused, and a zero column, in buffers that are long enough wherever N is at
-/// most 2,048 and the orders at most 10; the second prime is 2.
+/// Zero matrices, or identities where a zero pivot or a singular matrix is refused, and a zero column, in buffers that are long
+/// enough wherever N is at most 2,048 and the orders at most 10; the second prime is 2.
 fn zeros(call: &Call, p: u32, n: u32, orders: &[u32]) -> Case {
     let orders: Vec<(u32, u32)> = orders.chunks(2).map(|pair| (pair[0], pair[1])).collect();
     let rows = n.min(2_048) as usize;
@@ -94,7 +94,7 @@ fn zeros(call: &Call, p: u32, n: u32, orders: &[u32]) -> Case {
             Holds::ReadFile => return Buffer::new(number, holds, zero_file(p, n, orders[0], rows, capped(orders[0]))),
         };
         let mut words = vec![if number <= 3 { 0 } else { 9 }; count];
-        if call.pivots && number == 1 {
+        if (call.pivots || call.is_dense()) && number == 1 {
             words.iter_mut().step_by(row(capped(orders[0]))).for_each(|d| *d = 1);
         }
         Buffer::new(number, holds, words)

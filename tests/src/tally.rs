@@ -4,8 +4,9 @@ use crate::calls::{Call, Number, CALLS};
 use crate::case::{Buffer, Case, Fault, Holds};
 use crate::faults;
 use crate::layout::Kind;
-use crate::refusals::{file_head, orders, size, Reply, LARGEST_PRIME};
+use crate::refusals::{file_head, orders, size, Reply, LARGEST_DENSE_SIZE, LARGEST_PRIME, LARGEST_SIZE};
 use crate::row_file::FIRST;
+use crate::swept::first_zero_pivot;
 use std::collections::{BTreeMap, BTreeSet};
 
 #[derive(Default)]
@@ -24,7 +25,7 @@ type Trait = (&'static str, fn(&Case) -> bool);
 const ACCEPTED: [Trait; 7] = [
     ("N is 1", |case| case.n == 1),
     ("N is 2", |case| case.n == 2),
-    ("N is 1,024", |case| case.n == 1024),
+    ("N is the largest", |case| case.n == if case.is_dense() { LARGEST_DENSE_SIZE } else { LARGEST_SIZE }),
     ("P is 2", |case| case.p == 2),
     ("P is 2,147,483,647", |case| case.p == LARGEST_PRIME),
     ("no surplus", |case| case.buffers.iter().all(|buffer| !has_surplus(case, buffer))),
@@ -136,6 +137,44 @@ const ACCEPTED_REGULAR: [Trait; 6] = [
     ("s above r, r above 0, N above 3", |case| case.orders[0].1 > case.orders[0].0 && case.orders[0].0 > 0 && case.n > 3),
 ];
 
+/// Traits of accepted cases of the dense solve.
+const ACCEPTED_DENSE: [Trait; 7] = [
+    ("no singular corner, N above 4", |case| case.n > 4 && singular_corner(case).is_none()),
+    ("corner 1 is singular, N above 4", |case| case.n > 4 && singular_corner(case) == Some(1)),
+    ("corner N − 1 is the first singular one, N above 4", |case| {
+        case.n > 4 && singular_corner(case) == Some(case.n as usize - 1)
+    }),
+    ("a corner between is the first singular one, N above 4", |case| {
+        case.n > 4 && singular_corner(case).is_some_and(|k| k > 1 && k + 1 < case.n as usize)
+    }),
+    ("a singular corner, N is 256", |case| case.n == LARGEST_DENSE_SIZE && singular_corner(case).is_some()),
+    ("a singular corner, P is 2,147,483,647, orders above 1, N above 3", |case| {
+        case.p == LARGEST_PRIME && orders_above_1(case) && singular_corner(case).is_some()
+    }),
+    ("every d is 0, N above 3", |case| {
+        case.n > 3 && (1..=case.n as usize).all(|k| case.table().generator(Kind::D, k).residues[0] == 0)
+    }),
+];
+
+/// Traits of refused cases of the dense solve.
+const REFUSED_DENSE: [TraitOfReply; 6] = [
+    ("N is 257", |case, reply| reply.number == 2 && case.n == LARGEST_DENSE_SIZE + 1),
+    ("N is 1,024", |case, reply| reply.number == 2 && case.n == LARGEST_SIZE),
+    ("the square is a word too short, N above 1", |case, reply| {
+        (reply.number, reply.buffer) == (4, 4) && case.n > 1 && case.buffer(4).words.len() + 1 == case.needed(Holds::Square)
+    }),
+    ("singular, every corner before the last regular, N above 4", |case, reply| {
+        reply.number == 7 && case.n > 4 && singular_corner(case) == Some(case.n as usize)
+    }),
+    ("singular, corner 1 too, N above 4", |case, reply| reply.number == 7 && case.n > 4 && singular_corner(case) == Some(1)),
+    ("singular, N is 256", |case, reply| reply.number == 7 && case.n == LARGEST_DENSE_SIZE),
+];
+
+/// The first singular corner.
+fn singular_corner(case: &Case) -> Option<usize> {
+    first_zero_pivot(case.table())
+}
+
 /// Traits of accepted cases with two primes.
 const ACCEPTED_PRIMES: [Trait; 8] = [
     ("the second prime is 2", |case| case.q == 2),
@@ -225,11 +264,11 @@ impl Tally {
         if reply.number == 5 && reply.row == case.n && case.n > 1 {
             self.count(call, BAD_LAST);
         }
-        if reply.number == 7 && case.n > 1 {
+        if call.pivots && reply.number == 7 && case.n > 1 {
             let row = [(1, ZERO_FIRST), (case.n, ZERO_LAST)].into_iter().find(|&(row, _)| row == reply.row);
             self.count(call, row.map_or(ZERO_BETWEEN, |(_, name)| name));
         }
-        if reply.number == 7 && case.n <= 5 && case.table().matrix().rank() == case.n as usize {
+        if call.pivots && reply.number == 7 && case.n <= 5 && case.table().matrix().rank() == case.n as usize {
             self.count(call, ZERO_INVERTIBLE);
         }
         if reply.number == 0 && case.buffers.iter().any(|buffer| buffer.shared) {
@@ -310,6 +349,7 @@ fn refused(call: &Call) -> &'static [TraitOfReply] {
     match call.number {
         Number::Prime => &REFUSED_PRIMES,
         _ if call.reads_file() => &REFUSED_FILE,
+        _ if call.is_dense() => &REFUSED_DENSE,
         _ => &[],
     }
 }
@@ -323,10 +363,13 @@ fn accepted(call: &Call) -> Vec<&'static [Trait]> {
     if call.tables == 2 {
         lists.push(&ACCEPTED_TWO);
     }
-    if call.pivots {
+    if call.pivots || call.is_dense() {
         lists.push(&ACCEPTED_REGULAR);
     }
-    if call.buffers.iter().any(|&(number, _)| number == 4) {
+    if call.is_dense() {
+        lists.push(&ACCEPTED_DENSE);
+    }
+    if call.buffers.iter().any(|&(_, holds)| holds == Holds::Work) {
         lists.push(&ACCEPTED_WORK);
     }
     lists

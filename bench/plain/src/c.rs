@@ -179,6 +179,25 @@ pub unsafe extern "C" fn residues_solve(
 }
 
 #[no_mangle]
+pub unsafe extern "C" fn residues_solve_dense(
+    p: u32,
+    n: u32,
+    r: u32,
+    s: u32,
+    table: *const u32,
+    table_len: usize,
+    column: *const u32,
+    column_len: usize,
+    square: *mut u32,
+    square_len: usize,
+    result: *mut u32,
+    result_len: usize,
+) -> u64 {
+    let (square, result) = (written(square, square_len), written(result, result_len));
+    done(crate::solve_dense(p, n, r, s, read(table, table_len), read(column, column_len), square, result))
+}
+
+#[no_mangle]
 pub unsafe extern "C" fn residues_inverse(
     p: u32,
     n: u32,

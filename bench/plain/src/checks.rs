@@ -23,19 +23,19 @@ pub fn refuse(cause: bool, number: u32, buffer: u32, row: u32) -> Result<(), Ref
 
 /// The shape of the only table of a call.
 pub fn shape(p: u32, n: u32, r: u32, s: u32) -> Result<Shape, Refusal> {
-    shape_in(1, p, n, r, s)
+    shape_in(1, LARGEST_SIZE, p, n, r, s)
 }
 
-/// The shape of a table whose orders belong to the given buffer.
-pub fn shape_in(buffer: u32, p: u32, n: u32, r: u32, s: u32) -> Result<Shape, Refusal> {
+/// The shape of a table of at most so many rows, whose orders belong to the given buffer.
+pub fn shape_in(buffer: u32, largest: usize, p: u32, n: u32, r: u32, s: u32) -> Result<Shape, Refusal> {
     refuse(!is_prime(p), 1, 0, 0)?;
-    let n = size(n)?;
+    let n = size(largest, n)?;
     refuse(is_above(r) || is_above(s), 3, buffer, 0)?;
     Ok(Shape { p, n, r: r as usize, s: s as usize })
 }
 
-pub fn size(n: u32) -> Result<usize, Refusal> {
-    refuse(!(1..=LARGEST_SIZE as u32).contains(&n), 2, 0, 0)?;
+pub fn size(largest: usize, n: u32) -> Result<usize, Refusal> {
+    refuse(!(1..=largest as u32).contains(&n), 2, 0, 0)?;
     Ok(n as usize)
 }
 

@@ -1,6 +1,6 @@
 //! Row files: little-endian words, a head of five, then n records of one word "next" and a row.
 
-use crate::checks::{self, refuse, Refusal};
+use crate::checks::{self, refuse, Refusal, LARGEST_SIZE};
 use crate::residue::LARGEST_PRIME;
 use crate::table::Shape;
 
@@ -11,7 +11,7 @@ const HEAD: usize = 5 * WORD;
 pub fn read_file(file: &[u8], result: &mut [u32]) -> Result<u32, Refusal> {
     refuse(file.len() < HEAD, 9, 6, 0)?;
     let p = if word(file, 0) == 0 { LARGEST_PRIME } else { word(file, 0) };
-    let shape = checks::shape_in(6, p, word(file, 1), word(file, 2), word(file, 3))?;
+    let shape = checks::shape_in(6, LARGEST_SIZE, p, word(file, 1), word(file, 2), word(file, 3))?;
     refuse(file.len() != file_bytes(shape), 9, 6, 0)?;
     checks::length(5, result, shape.table_words())?;
     let file = File { shape, bytes: file };

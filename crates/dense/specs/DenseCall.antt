@@ -1,4 +1,5 @@
--- The dense solve: its checks, its reply, and each written buffer afterwards. Numbers and buffers as for the other calls; 4 is the lent square.
+-- The dense solve: its checks, its reply, and each written buffer afterwards. Numbers and buffers as for the other calls; 4 is the lent square, and 7
+-- beside 1 and 0 says that the whole matrix is singular.
 use mathlib.Core.Bool.{Bool, _||_, not}
 use mathlib.Core.List.{List, [], _∷_, _++_}
 use Prim.Native.Nat.{ℕ, _*_}

@@ -1,14 +1,15 @@
 -- What the dense solve promises, as statements about DenseCall.antt. Quoted are the request and, of every call, the proposal and the scope paper.
--- The proofs are `promises` and `unused-influence-nothing` in DensePromisesProof.antt.
+-- The proofs are `promises` and `unused` in DensePromisesProof.antt.
 use mathlib.Core.Bool.{false}
-use mathlib.Core.List.{List, [], _∷_}
+use mathlib.Core.List.{List, [], _∷_, _++_}
 use mathlib.Core.Logic.{_≢_, _↔_, _⊎_}
 use mathlib.Core.Path.{_≡_}
 use Prim.Native.Nat.{ℕ, _*_, _<_, _≤_}
 use lib.ListN.{length, getD, drop}
 use Rattle.algebra.specs.Matrix.{sends, Singular}
 use Rattle.field.specs.Prime.{Prime}
-use Rattle.field.specs.Residue.{residues}
+use Rattle.field.specs.Residue.{residues, val}
+use Rattle.lists.specs.Lists.{tabulate}
 use Rattle.table.specs.Words.{Table, withWords, firstBad, firstBadPlace, matrixOf, WordsBelow, SameUsed, SameColumn}
 use Rattle.table.specs.Replies.{Accepted, accept, refuse, ladder, causeAt, short}
 use Rattle.table.specs.Results.{column}
@@ -51,6 +52,10 @@ pub record DensePromises (P N : ℕ) (A : Table) (x v d : List ℕ) : Type 0 whe
       → sends (residues P) N (matrixOf P N A) (column P (denseAfter P N A x v d)) k ≡ column P x k
   pub only : Accepted (denseReply P N A x v d) → (y : ℕ → residues P .car)
       → ((k : ℕ) → k < N → sends (residues P) N (matrixOf P N A) y k ≡ column P x k) → (k : ℕ) → k < N → y k ≡ column P (denseAfter P N A x v d) k
+  -- in words: those of the solution are below P, so that it may be lent as a column again, and it is sent to the words that were given
+  pub again : Accepted (denseReply P N A x v d) → firstBadPlace P N (denseAfter P N A x v d) ≡ 0
+  pub solves-words : Accepted (denseReply P N A x v d) → (k : ℕ) → k < N
+      → val P (sends (residues P) N (matrixOf P N A) (column P (denseAfter P N A x v d)) k) ≡ getD x k 0
   -- "With no earlier fault it gives 7 with 1, 0 exactly when some column, not all zeros, is sent to zeros by the whole matrix."
   pub singular : (denseReply P N A x v d ≡ refuse 7 1 0) ↔ (GoodSystem P N A x v d × WholeSingular P N A)
   -- "N above 256 gives 2."
@@ -60,10 +65,12 @@ pub record DensePromises (P N : ℕ) (A : Table) (x v d : List ℕ) : Type 0 whe
       ≡ refuse 1 0 0 ∷ refuse 2 0 0 ∷ refuse 3 1 0 ∷ refuse 4 1 0 ∷ refuse 4 3 0 ∷ refuse 4 4 0 ∷ refuse 4 5 0
       ∷ refuse 5 1 (firstBad P N A) ∷ refuse 5 3 (firstBadPlace P N x) ∷ refuse 7 1 0 ∷ []
   pub causes : DenseCauses P N A x v d (λ k. causeAt (denseChecks P N A x v d) k ≡ false)
-  -- "Once the square is in use it ends as all zeros, on 7 as well, which is the one exception to undertaking 1 [..]; every other refusal leaves it."
+  -- "Once the square is in use it ends as all zeros, on 7 as well, which is the one exception to undertaking 1 and to the table's last column;
+  -- every other refusal leaves it."
   pub square-zeros : (denseReply P N A x v d .number ≡ 0) ⊎ (denseReply P N A x v d .number ≡ 7)
-      → (e : ℕ) → e < N * N → getD (squareAfter P N A x v d) e 0 ≡ 0
+      → squareAfter P N A x v d ≡ tabulate (N * N) (λ e. 0) ++ drop (N * N) v
   pub square-kept : denseReply P N A x v d .number ≢ 0 → denseReply P N A x v d .number ≢ 7 → squareAfter P N A x v d ≡ v
+  -- "the same goes for the surplus of every buffer": words past the N·N-th are kept
   pub square-surplus : drop (N * N) (squareAfter P N A x v d) ≡ drop (N * N) v
   -- "a refusal leaves each lent buffer untouched": the result on 7 too; and words past the N-th are not written
   pub result-kept : Keeps (denseReply P N A x v d) N d (denseAfter P N A x v d)
@@ -79,14 +86,16 @@ pub record DensePromises (P N : ℕ) (A : Table) (x v d : List ℕ) : Type 0 whe
   pub surplus : (x′ : List ℕ) → SameColumn N x x′ → short x N ≡ short x′ N
       → (denseReply P N A x v d ≡ denseReply P N A x′ v d) × (denseAfter P N A x v d ≡ denseAfter P N A x′ v d)
       × (squareAfter P N A x v d ≡ squareAfter P N A x′ v d)
-  -- what square and result held is not read: they matter by nothing but whether they are long enough
-  pub unread : (v′ d′ : List ℕ) → short v (N * N) ≡ short v′ (N * N) → short d N ≡ short d′ N → denseReply P N A x v d ≡ denseReply P N A x v′ d′
+  -- what square and result held is not read: reply and solution depend on them by nothing but whether they are long enough
+  pub unread : (v′ d′ : List ℕ) → short v (N * N) ≡ short v′ (N * N) → short d N ≡ short d′ N
+      → (denseReply P N A x v d ≡ denseReply P N A x v′ d′)
+      × (Accepted (denseReply P N A x v d) → SameColumn N (denseAfter P N A x v d) (denseAfter P N A x v′ d′))
   -- the value is 0, and the reply's parts come back from one number
   pub value : Accepted (denseReply P N A x v d) → denseReply P N A x v d ≡ accept 0
   pub packs : Packed (denseReply P N A x v d)
 
 -- "The unused generators of the end rows influence nothing", nor does what lies past the N rows.
-abbrev pub UnusedInfluenceNothing : Type 0
-UnusedInfluenceNothing = (P N : ℕ) (A : Table) (t : List ℕ) → SameUsed N A t → short (A .words) (tableLength N A) ≡ short t (tableLength N A)
+abbrev pub DenseUnused : Type 0
+DenseUnused = (P N : ℕ) (A : Table) (t : List ℕ) → SameUsed N A t → short (A .words) (tableLength N A) ≡ short t (tableLength N A)
     → (x v d : List ℕ) → (denseReply P N A x v d ≡ denseReply P N (withWords A t) x v d)
     × (denseAfter P N A x v d ≡ denseAfter P N (withWords A t) x v d) × (squareAfter P N A x v d ≡ squareAfter P N (withWords A t) x v d)

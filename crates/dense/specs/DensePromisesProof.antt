@@ -15,7 +15,7 @@ use Rattle.algebra.specs.SumLaws.{sum-ext}
 use Rattle.algebra.specs.Matrix.{Matrix, sends}
 use Rattle.algebra.specs.Generators.{pick}
 use Rattle.field.specs.Prime.{Prime}
-use Rattle.field.specs.Residue.{residues, res, val, res-val, val-small, field, prime-pos}
+use Rattle.field.specs.Residue.{residues, res, val, res-val, val-small, val-below, field, prime-pos}
 use Rattle.lists.specs.Lists.{tabulate, over}
 use Rattle.lists.specs.ListLaws.{clash, length-tabulate, getD-here, tabulate-same}
 use Rattle.table.specs.Limits.{upTo}
@@ -31,7 +31,7 @@ use Rattle.table.specs.UndertakingsProof.{first, second, third}
 use Rattle.elimination.specs.Elimination.{regular, solution}
 use Rattle.elimination.specs.EliminationLaws.{solution-solves, solution-only, regular-exactly}
 use Rattle.dense.specs.DenseCall.{regularW, denseW, denseEarlier, denseChecks, denseReply, denseAfter, squareAfter}
-use Rattle.dense.specs.DensePromises.{GoodSystem, WholeSingular, DenseCauses, DensePromises, UnusedInfluenceNothing}
+use Rattle.dense.specs.DensePromises.{GoodSystem, WholeSingular, DenseCauses, DensePromises, DenseUnused}
 
 module _ (P N : ℕ) (A : Table) (x v d : List ℕ) where
   abbrev K : Ring
@@ -167,6 +167,12 @@ module _ (P N : ℕ) (A : Table) (x v d : List ℕ) where
     only : (z : ℕ → K .car) → ((k : ℕ) → k < N → sends K N M z k ≡ column P x k) → (k : ℕ) → k < N → z k ≡ column P (denseAfter P N A x v d) k
     only z s k h = solution-only (field P (good .0 .0)) N M (column P x) regular-here z s k h ∙ sym (column-is k h)
 
+    again : firstBadPlace P N (denseAfter P N A x v d) ≡ 0
+    again = place-good P N (denseAfter P N A x v d) (λ k h. omega (arith, word-is k h, val-below P (prime-pos P (good .0 .0)) (solution K N M (column P x) k)))
+
+    solves-words : (k : ℕ) → k < N → val P (sends K N M (column P (denseAfter P N A x v d)) k) ≡ getD x k 0
+    solves-words k h = ap (val P) (solves k h) ∙ val-small P (prime-pos P (good .0 .0)) (getD x k 0) (good .2 .1 k h)
+
     agrees : (w c : List ℕ) → Accepted (solveReply P N A x w c) → (k : ℕ) → k < N → getD (denseAfter P N A x v d) k 0 ≡ getD (solveAfter P N A x w c) k 0
     agrees w c ok′ k h =
         let e : column P (solveAfter P N A x w c) k ≡ solution K N M (column P x) k =
@@ -236,9 +242,9 @@ module _ (P N : ℕ) (A : Table) (x v d : List ℕ) where
     all-same : (y ≡ denseReply P N A x′ v d) × (denseAfter P N A x v d ≡ denseAfter P N A x′ v d) × (squareAfter P N A x v d ≡ squareAfter P N A x′ v d)
     all-same = (reply-same, result-same, ap (λ (r : Reply). pick (eqb (r .number) 0 || eqb (r .number) 7) cleared v) reply-same)
 
-  unread : (v′ d′ : List ℕ) → short v (N * N) ≡ short v′ (N * N) → short d N ≡ short d′ N → y ≡ denseReply P N A x v′ d′
+  reply-unread : (v′ d′ : List ℕ) → short v (N * N) ≡ short v′ (N * N) → short d N ≡ short d′ N → y ≡ denseReply P N A x v′ d′
   unfolding denseReply
-  unread v′ d′ a b = rw (a, b)
+  reply-unread v′ d′ a b = rw (a, b)
 
   -- ---- The reply as one number.
 
@@ -265,33 +271,40 @@ module _ (P N : ℕ) (A : Table) (x v d : List ℕ) where
       (fits-answer (sizeChecks P N (upTo 256) A []) (answer others (accept 0)) (λ k z. numbers-fit .at k)
       (λ z. fits-answer others (accept 0) (λ k w. others-fit (size-is 256 N (z 1)) .at k) (λ w. zero-fits)))
 
-  pub promises : DensePromises P N A x v d
-  unfolding denseReply
-  promises = record {
-    accepts = accepts;
-    solves = solves;
-    only = only;
-    singular = singular;
-    large = large;
-    order = refl;
-    causes = causes;
-    square-zeros = λ u e h. ap (λ (l : List ℕ). getD l e 0) (in-use u) ∙ getD-here (N * N) (λ e. 0) _ e h;
-    square-kept = left-alone;
-    square-surplus = square-surplus;
-    result-kept = (kept y (denseW P N A x) d, surplus y N (denseW P N A x) d (λ ok. solution-long));
-    square-length = square-length;
-    result-length = after-length y (denseW P N A x) d (λ ok. omega (arith, solution-long, good ok .4));
-    agrees = agrees;
-    no-worse = no-worse;
-    surplus = all-same;
-    unread = unread;
-    value = value-is (denseChecks P N A x v d) (accept 0) refl;
-    packs = parts y fits;
-  }
+pub promises : (P N : ℕ) (A : Table) (x v d : List ℕ) → DensePromises P N A x v d
+unfolding denseReply
+promises P N A x v d = record {
+  accepts = accepts P N A x v d;
+  solves = solves P N A x v d;
+  only = only P N A x v d;
+  again = again P N A x v d;
+  solves-words = solves-words P N A x v d;
+  singular = singular P N A x v d;
+  large = large P N A x v d;
+  order = refl;
+  causes = causes P N A x v d;
+  square-zeros = λ u. in-use P N A x v d u ∙ ap (λ (m : ℕ). zeros P N A x v d ++ drop m v) (zeros-long P N A x v d);
+  square-kept = left-alone P N A x v d;
+  square-surplus = square-surplus P N A x v d;
+  result-kept = (
+    kept (denseReply P N A x v d) (denseW P N A x) d,
+    surplus (denseReply P N A x v d) N (denseW P N A x) d (λ ok. solution-long P N A x v d),
+  );
+  square-length = square-length P N A x v d;
+  result-length = after-length (denseReply P N A x v d) (denseW P N A x) d
+      (λ ok. omega (arith, solution-long P N A x v d, good P N A x v d ok .4));
+  agrees = agrees P N A x v d;
+  no-worse = no-worse P N A x v d;
+  surplus = all-same P N A x v d;
+  unread = λ v′ d′ a b. (reply-unread P N A x v d v′ d′ a b, λ ok k h.
+      word-is P N A x v d ok k h ∙ sym (word-is P N A x v′ d′ (ap (λ (r : Reply). r .number) (sym (reply-unread P N A x v d v′ d′ a b)) ∙ ok) k h));
+  value = value-is (denseChecks P N A x v d) (accept 0) refl;
+  packs = parts (denseReply P N A x v d) (fits P N A x v d);
+}
 
-pub unused-influence-nothing : UnusedInfluenceNothing
+pub unused : DenseUnused
 unfolding denseReply denseW regularW
-unused-influence-nothing P N A t u l x v d =
+unused P N A t u l x v d =
     let f : firstBad P N A ≡ firstBad P N (withWords A t) = firstBad-same P N A t u in
     let m : matrixOf P N A ≡ matrixOf P N (withWords A t) = matrix-same P N A t u in
     (rw (l, f, m), rw (l, f, m), rw (l, f, m))

@@ -12,6 +12,7 @@ use Rattle.lists.specs.Lists.{tabulate}
 use Rattle.lists.specs.ListLaws.{length-tabulate, length-rows, getD-tabulate, getD-here, getD-rows-more, tabulate-same}
 use Rattle.table.specs.Words.{Table, matrixOf}
 use Rattle.table.specs.Results.{column, matrixW}
+use Rattle.checks.specs.Passed.{Good}
 use Rattle.calls.specs.Finish.{written-length}
 use Rattle.elimination.specs.Elimination.{solution}
 use Rattle.dense_rows.specs.DenseRows.{Square, Beside}
@@ -20,9 +21,17 @@ use Rattle.dense_solves.specs.Progress.{Holds, HoldsColumn}
 use Rattle.lists.specs.Parts.{part-word}
 use Rattle.dense.specs.DenseCall.{denseW}
 
-module _ (P n : ℕ) (A : Table) (pos : 0 < P) where
+-- the right-hand side b, of n words below P, and a square v with room for the table's matrix
+pub record Given (P n : ℕ) (A : Table) (b v : List ℕ) : Type 0 where
+  pub pos : 0 < P
+  pub good : Good P n A
+  pub long-column : n ≤ length b
+  pub below : (k : ℕ) → k < n → getD b k 0 < P
+  pub room-square : n * n ≤ length v
+
+module _ {P n : ℕ} {A : Table} {b v : List ℕ} (g : Given P n A b v) where
   -- sq is the square with the matrix written to it
-  module _ (v sq : List ℕ) (room : n * n ≤ length v) (e : sq ≡ matrixW P n A ++ drop (n * n) v) where
+  module _ {sq : List ℕ} (e : sq ≡ matrixW P n A ++ drop (n * n) v) where
     abbrev lent : List ℕ
     lent = midOf 0 (n * n - 0) sq
 
@@ -31,10 +40,10 @@ module _ (P n : ℕ) (A : Table) (pos : 0 < P) where
     matrix-length = length-rows _ n (λ k. length-tabulate n _) n
 
     long : length sq ≡ length v
-    long = written-length (matrixW P n A) v sq (n * n) matrix-length room e
+    long = written-length (matrixW P n A) v sq (n * n) matrix-length (g .room-square) e
 
-    pub square-long : length lent ≡ n * n
-    square-long = mid-len 0 (n * n) sq (omega (arith, long)) ∙ omega arith
+    square-long : length lent ≡ n * n
+    square-long = mid-len 0 (n * n) sq (omega (arith, long, g .room-square)) ∙ omega arith
 
     pub square-holds : Holds P n lent (matrixOf P n A)
     unfolding matrixW
@@ -46,33 +55,37 @@ module _ (P n : ℕ) (A : Table) (pos : 0 < P) where
         ∙ getD-tabulate n (λ j. val P (matrixOf P n A i j)) j hj
 
     pub square-good : Square P n lent
-    square-good = record { room = omega (arith, square-long); below = λ i j hi hj. under P pos (matrixOf P n A i j) (square-holds i j hi hj) }
+    square-good = record { room = omega (arith, square-long); below = λ i j hi hj. under P (g .pos) (matrixOf P n A i j) (square-holds i j hi hj) }
 
     -- the square cleared
     pub square-leaves : {y : List ℕ} → y ≡ tabulate (length lent) (λ e. 0) → putMid 0 (n * n - 0) sq y ≡ tabulate (n * n) (λ e. 0) ++ drop (n * n) v
-    square-leaves {y} q =
+    square-leaves q =
         ap₂ _++_ (q ∙ ap (λ (m : ℕ). tabulate m (λ e. 0)) square-long)
         (post-is 0 (n * n) sq (omega arith) ∙ ap (drop (n * n)) e ∙ drop-at (matrixW P n A) (drop (n * n) v) (n * n) matrix-length)
 
-  -- x is the private column with the given one copied to it
-  module _ (b x rest : List ℕ) (room : n ≤ length b) (below : (k : ℕ) → k < n → getD b k 0 < P) (e : x ≡ tabulate (length (midOf 0 (n - 0) b)) (λ j. getD (midOf 0 (n - 0) b) j 0) ++ rest) where
+  -- x is the private column with b copied to it
+  module _ (x rest : List ℕ) (e : x ≡ tabulate (length (midOf 0 (n - 0) b)) (λ j. getD (midOf 0 (n - 0) b) j 0) ++ rest) where
     copied : (k : ℕ) → k < n → getD x k 0 ≡ getD b k 0
     copied k h =
-        let l : length (midOf 0 (n - 0) b) ≡ n - 0 = mid-len 0 n b room in
+        let l : length (midOf 0 (n - 0) b) ≡ n - 0 = mid-len 0 n b (g .long-column) in
         let z : 0 + k ≡ k = omega arith in
-        ap (λ (y : List ℕ). getD y k 0) e ∙ getD-here (length (midOf 0 (n - 0) b)) _ rest k (omega arith) ∙ part-word 0 (n - 0) b k (omega arith) ∙ ap (λ (m : ℕ). getD b m 0) z
+        ap (λ (y : List ℕ). getD y k 0) e ∙ getD-here (length (midOf 0 (n - 0) b)) _ rest k (omega arith)
+        ∙ part-word 0 (n - 0) b k (omega arith) ∙ ap (λ (m : ℕ). getD b m 0) z
 
     pub column-holds : HoldsColumn P n x (column P b)
-    column-holds k h = copied k h ∙ sym (val-small P pos (getD b k 0) (below k h))
+    column-holds k h = copied k h ∙ sym (val-small P (g .pos) (getD b k 0) (g .below k h))
 
     pub column-good : n ≤ length x → Beside P n x
-    column-good long = record { room = long; below = λ k h. omega (arith, copied k h, below k h) }
+    column-good long = record { room = long; below = λ k h. omega (arith, copied k h, g .below k h) }
 
   -- the solution copied from the private column to the result
-  pub result-leaves : (b x d : List ℕ) {out : List ℕ} → n ≤ length x → HoldsColumn P n x (solution (residues P) n (matrixOf P n A) (column P b))
-      → out ≡ tabulate (length (midOf 0 (n - 0) x)) (λ j. getD (midOf 0 (n - 0) x) j 0) ++ drop (length (midOf 0 (n - 0) x)) d → out ≡ denseW P n A b ++ drop n d
+  pub result-leaves : (x d : List ℕ) {out : List ℕ} → n ≤ length x → HoldsColumn P n x (solution (residues P) n (matrixOf P n A) (column P b))
+      → out ≡ tabulate (length (midOf 0 (n - 0) x)) (λ j. getD (midOf 0 (n - 0) x) j 0) ++ drop (length (midOf 0 (n - 0) x)) d
+      → out ≡ denseW P n A b ++ drop n d
   unfolding denseW
-  result-leaves b x d room h e =
+  result-leaves x d room h e =
       let l : length (midOf 0 (n - 0) x) ≡ n = mid-len 0 n x room ∙ omega arith in
       e ∙ ap (λ (m : ℕ). tabulate m (λ j. getD (midOf 0 (n - 0) x) j 0) ++ drop m d) l
-      ∙ ap (λ (y : List ℕ). y ++ drop n d) (tabulate-same n _ _ (λ k q. let z : 0 + k ≡ k = omega arith in part-word 0 (n - 0) x k (omega arith) ∙ ap (λ (m : ℕ). getD x m 0) z ∙ h k q))
+      ∙ ap (λ (y : List ℕ). y ++ drop n d) (tabulate-same n _ _ (λ k q.
+      let z : 0 + k ≡ k = omega arith in
+      part-word 0 (n - 0) x k (omega arith) ∙ ap (λ (m : ℕ). getD x m 0) z ∙ h k q))

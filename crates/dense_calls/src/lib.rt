@@ -25,10 +25,18 @@ fn solve_words(
     square: &mut [u32],
     result: &mut [u32],
 ) -> bool
-    requires { ⌜ Fit (m .p) (m .reciprocal) × Good (m .p) n (tab r s (now table)) × (n ≤ 256) × (n ≤ length (now column)) × ((k : ℕ) → k < n → getD (now column) k 0 < m .p) × (n * n ≤ length (now square)) × (n ≤ length (now result)) ⌝ }
+    requires { ⌜ Fit (m .p) (m .reciprocal)
+        × Good (m .p) n (tab r s (now table))
+        × (n ≤ 256)
+        × (n ≤ length (now column))
+        × ((k : ℕ) → k < n → getD (now column) k 0 < m .p)
+        × (n * n ≤ length (now square))
+        × (n ≤ length (now result)) ⌝ }
     ensures { λ found. ⌜ found ≡ regularW (m .p) n (tab r s (now (table .entry))) ⌝ }
     ensures { λ _. ⌜ now (square .exit) ≡ tabulate (n * n) (λ e. 0) ++ drop (n * n) (now (square .entry)) ⌝ }
-    ensures { λ found. ⌜ (found ≡ true → now (result .exit) ≡ denseW (m .p) n (tab r s (now (table .entry))) (now (column .entry)) ++ drop n (now (result .entry))) × (found ≡ false → now (result .exit) ≡ now (result .entry)) ⌝ }
+    ensures { λ found. ⌜ (found ≡ true
+        → now (result .exit) ≡ denseW (m .p) n (tab r s (now (table .entry))) (now (column .entry)) ++ drop n (now (result .entry)))
+        × (found ≡ false → now (result .exit) ≡ now (result .entry)) ⌝ }
 {
     let mut x = [0u32; 256];
     dense_rows::copy(&mut x, &column[0..n]);
@@ -52,7 +60,8 @@ pub fn solve_dense(
     square: &mut [u32],
     result: &mut [u32],
 ) -> Reply
-    ensures { λ y. ⌜ reply (y .number) (y .buffer) (y .row) (y .value) ≡ denseReply p n (tab r s (now (table .entry))) (now (column .entry)) (now (square .entry)) (now (result .entry)) ⌝ }
+    ensures { λ y. ⌜ reply (y .number) (y .buffer) (y .row) (y .value)
+        ≡ denseReply p n (tab r s (now (table .entry))) (now (column .entry)) (now (square .entry)) (now (result .entry)) ⌝ }
     ensures { λ y. ⌜ now (square .exit) ≡ squareAfter p n (tab r s (now (table .entry))) (now (column .entry)) (now (square .entry)) (now (result .entry)) ⌝ }
     ensures { λ y. ⌜ now (result .exit) ≡ denseAfter p n (tab r s (now (table .entry))) (now (column .entry)) (now (square .entry)) (now (result .entry)) ⌝ }
 {

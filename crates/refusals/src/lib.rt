@@ -56,7 +56,8 @@ pub fn check_multiple(p: u32, n: u32, r: u32, s: u32, c: u32, t: &[u32], room: u
     y
 }
 
-// ---- Solving: the checks before the pivots. N may be at most `most`; `work` is the length of the work buffer, of which `need` words are asked.
+// ---- Solving: the checks before the pivots. N may be at most `most`; `work` is the length of buffer 4,
+// work or square, of which `need` words are asked.
 
 pub fn check_system(
     p: u32,

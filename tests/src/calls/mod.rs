@@ -5,7 +5,7 @@ use crate::case::{Case, Holds};
 use crate::dense::Table;
 use crate::fractions::Fraction;
 use crate::lent::Lent;
-use crate::refusals::{Check, Reply};
+use crate::refusals::{Check, Reply, LARGEST_DENSE_SIZE, LARGEST_SIZE};
 
 pub mod apply;
 pub mod apply_transpose;
@@ -17,11 +17,12 @@ pub mod multiple;
 pub mod product;
 pub mod read_file;
 pub mod solve;
+pub mod solve_dense;
 pub mod sum;
 pub mod transpose;
 pub mod write_file;
 
-pub const CALLS: [&Call; 13] = [
+pub const CALLS: [&Call; 14] = [
     &entry::CALL,
     &matrix::CALL,
     &apply::CALL,
@@ -31,6 +32,7 @@ pub const CALLS: [&Call; 13] = [
     &sum::CALL,
     &product::CALL,
     &solve::CALL,
+    &solve_dense::CALL,
     &inverse::CALL,
     &read_file::CALL,
     &write_file::CALL,
@@ -76,6 +78,19 @@ impl Call {
     pub fn reads_file(&self) -> bool {
         self.buffers.iter().any(|&(_, holds)| holds == Holds::ReadFile)
     }
+
+    /// Whether it is lent a square: then a singular matrix is refused, after every check, and its corners do not matter.
+    pub fn is_dense(&self) -> bool {
+        self.buffers.contains(&(4, Holds::Square))
+    }
+
+    pub fn largest_size(&self) -> u32 {
+        if self.is_dense() {
+            LARGEST_DENSE_SIZE
+        } else {
+            LARGEST_SIZE
+        }
+    }
 }
 
 /// For calls whose words are all that is owed.
@@ -109,6 +124,15 @@ impl Answer {
         let denominator = |&(_, denominator): &Fraction| u32::try_from(denominator).expect("a denominator is above 0");
         let (numerators, denominators) = (found.iter().flatten().map(numerator), found.iter().flatten().map(denominator));
         Answer { written: vec![(4, numerators.collect()), (5, denominators.collect())], ..Answer::value(0) }
+    }
+
+    /// The only solution of the dense solve, or none; the square, buffer 4, is zeros either way.
+    pub fn dense(n: usize, solution: Option<Vec<u32>>) -> Answer {
+        let square = (4, vec![0; n * n]);
+        match solution {
+            Some(column) => Answer { written: vec![square, (5, column)], ..Answer::value(0) },
+            None => Answer { reply: Reply::singular(), written: vec![square] },
+        }
     }
 
     /// Nothing is written.

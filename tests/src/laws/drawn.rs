@@ -8,7 +8,7 @@ use crate::eliminated::reciprocal;
 use crate::joined::Pair;
 use crate::layout::{Kind, Shape, KINDS};
 use crate::refusals::{LARGEST_ORDER, LARGEST_PRIME};
-use crate::swept::choose_pivots;
+use crate::swept::{choose_pivots, first_zero_pivot};
 
 /// The tables of an identity are drawn in so many ways, by turns.
 const WAYS: u64 = 7;
@@ -61,15 +61,12 @@ impl Pivots {
 }
 
 impl Factor {
-    fn table(&self) -> Table<'_> {
+    pub fn table(&self) -> Table<'_> {
         Table { p: self.p, shape: self.shape, words: &self.words }
     }
 
-    /// The row of the first zero pivot, by the papers' recurrence.
     pub fn zero_pivot(&self) -> Option<usize> {
-        let mut found = None;
-        self.meet_pivots(|row, m| found = (m == 0).then_some(row));
-        found
+        first_zero_pivot(self.table())
     }
 
     fn is_regular(&self) -> bool {
@@ -79,17 +76,12 @@ impl Factor {
     /// The pivot of a row, where none before it is zero.
     fn pivot(&self, wanted: usize) -> Option<u32> {
         let mut found = None;
-        self.meet_pivots(|row, m| found = if row == wanted { Some(m) } else { found });
-        found
-    }
-
-    /// Every row with its pivot, to the first zero pivot.
-    fn meet_pivots(&self, mut meet: impl FnMut(usize, u32)) {
         let keep = |row, m| {
-            meet(row, m);
+            found = if row == wanted { Some(m) } else { found };
             m
         };
         choose_pivots(self.p, self.shape, &mut self.words.clone(), keep);
+        found
     }
 
     /// The product's table by the dense program.
@@ -212,13 +204,8 @@ impl Laws {
 
     /// The table with its first zero pivot at row k; the rows after it are as they were.
     pub fn with_zero_pivot(&mut self, drawn: &Factor, k: usize) -> Factor {
-        let (p, mut table) = (drawn.p, drawn.clone());
-        let pivot = |row: usize, m: u32| match m {
-            _ if row == k => 0,
-            0 => self.random.between(1, p - 1),
-            _ => m,
-        };
-        choose_pivots(p, table.shape, &mut table.words, pivot);
+        let mut table = drawn.clone();
+        cases::make_zero_pivot(table.p, table.shape, &mut table.words, k, &mut self.random);
         table
     }
 

@@ -4,12 +4,10 @@
 use super::Laws;
 use crate::calls::fractions::CALL;
 use crate::calls::Answer;
-use crate::case::{Buffer, Case, Fault};
+use crate::case::{Buffer, Case};
 use crate::cases;
-use crate::faults;
 use crate::fractions::{Fraction, Primes, Residues};
 use crate::refusals::{Reply, LARGEST_PRIME};
-use crate::trial::trial;
 
 const SMALL: [u32; 11] = [2, 3, 5, 7, 11, 13, 17, 19, 23, 29, 31];
 
@@ -144,17 +142,7 @@ impl Laws {
 
     /// Every set of faults, planted in a case of its own: the first cause in the order of the checks decides.
     pub fn fault_sets(&mut self) -> Result<(), String> {
-        let all = faults::all(&CALL);
-        assert_eq!(1 << all.len(), FAULT_SETS);
-        let mut faults: Vec<Fault> =
-            (0..all.len()).filter(|place| self.number >> place & 1 == 1).map(|place| all[place]).collect();
-        faults.sort();
-        let mut case = cases::sound(&CALL, &mut self.random);
-        cases::add_surplus(&mut case, &mut self.random);
-        let case = cases::with_faults(case, faults, &mut self.random);
-        let reply = trial(&CALL, &case)?;
-        self.tally.record(&CALL, &case, reply);
-        Ok(())
+        self.fault_set(&CALL, FAULT_SETS)
     }
 
     /// These fractions are owed, or the first place without one.

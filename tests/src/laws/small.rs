@@ -1,7 +1,8 @@
 //! Every matrix and every table of a few residues, and every column: the answers are found by trying all columns.
 
 use super::{Factor, Laws};
-use crate::calls::{inverse, solve, Answer};
+use crate::block::Block;
+use crate::calls::{inverse, solve, solve_dense, Answer};
 use crate::dense::{Matrix, Table};
 use crate::layout::{Kind, Shape, KINDS};
 use crate::refusals::Reply;
@@ -64,6 +65,28 @@ impl Laws {
             let case = self.case(&solve::CALL, &[table], 0, column);
             self.answers(&solve::CALL, &case, &owed)?;
         }
+        self.every_dense_column(table)
+    }
+
+    /// Every matrix modulo 2 of four rows, in tables of orders 3, by the dense solve.
+    pub fn dense_small(&mut self) -> Result<(), String> {
+        self.part(2, 16).try_for_each(|number| self.every_dense_column(&with_entries(2, 4, &digits(2, 16, number))))
+    }
+
+    /// A matrix is singular where it sends two columns to zeros.
+    fn every_dense_column(&mut self, table: &Factor) -> Result<(), String> {
+        let (matrix, columns) = (table.matrix(), every(table.p, table.shape.n));
+        let sent: Vec<Vec<u32>> = columns.iter().map(|x| matrix.sends(x)).collect();
+        let is_singular = sent.iter().filter(|column| column.iter().all(|&x| x == 0)).count() > 1;
+        for column in &columns {
+            let solution = (!is_singular).then(|| {
+                let only = sent.iter().position(|other| other == column).expect("a regular matrix sends a column to each");
+                columns[only].clone()
+            });
+            assert_eq!(matrix.only_solution(column), solution, "the dense program finds another solution");
+            let case = self.case(&solve_dense::CALL, &[table], 0, column);
+            self.answers(&solve_dense::CALL, &case, &Answer::dense(matrix.n, solution))?;
+        }
         Ok(())
     }
 }
@@ -85,20 +108,21 @@ fn digits(p: u32, count: usize, number: u32) -> Vec<u32> {
     (0..count as u32).map(|place| number / p.pow(place) % p).collect()
 }
 
-/// A table of orders 2 with these entries, of at most three rows: a and b are the identity, q and g of rows 1 and 2 are 1 0 and
-/// 0 1, so that p of a row begins with its entries left of the diagonal, and h with those above it.
+/// A table with these entries, of at least orders 2, and of one less than its rows: a and b are the identity, q and g of row k have
+/// a 1 in place k, so that p of a row begins with its entries left of the diagonal, and h with those above it.
 fn with_entries(p: u32, n: usize, entries: &[u32]) -> Factor {
-    let shape = Shape { n, r: 2, s: 2 };
+    let order = 2.max(n - 1);
+    let shape = Shape { n, r: order, s: order };
     let mut words = vec![u32::MAX; shape.table_words()];
     for k in 1..=n {
         let entry = |i: usize, j: usize| if i.max(j) > n { 0 } else { entries[(i - 1) * n + j - 1] };
         for kind in KINDS.into_iter().filter(|&kind| !shape.is_idle(kind, k)) {
             let residues = match kind {
                 Kind::D => vec![entry(k, k)],
-                Kind::P => vec![entry(k, 1), entry(k, 2)],
-                Kind::H => vec![entry(1, k), entry(2, k)],
-                Kind::Q | Kind::G => vec![u32::from(k == 1), u32::from(k == 2)],
-                Kind::A | Kind::B => vec![1, 0, 0, 1],
+                Kind::P => (1..=order).map(|j| entry(k, j)).collect(),
+                Kind::H => (1..=order).map(|i| entry(i, k)).collect(),
+                Kind::Q | Kind::G => (1..=order).map(|place| u32::from(place == k)).collect(),
+                Kind::A | Kind::B => Block::identity(p, order).residues.into_owned(),
             };
             words[shape.places(kind, k)].copy_from_slice(&residues);
         }
