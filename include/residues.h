@@ -135,17 +135,17 @@ uint64_t residues_product(uint32_t p, uint32_t n, uint32_t r1, uint32_t s1, uint
 
 /* The column that the table sends to the given column, n words, to the result. Reads the table and the column. Work lends n * s
  * words, so it may be NULL and empty where s is 0; it is not read, and holds v of rows 1 to n - 1 afterwards, then s zeros.
- * Refuses 1, 2, 3, 4, 5, 7: 7 where the leading k by k corner is singular for some k, beside it 1 and the least such k. The matrix
- * may still have an inverse: for n to 256 ask residues_solve_dense then. */
+ * Refuses 1, 2, 3, 4, 5, 7: 7 where the leading k by k corner is singular for some k, beside it 1 and the least such k. Where that k is
+ * below n the matrix may still have an inverse: for n to 256 ask residues_solve_dense then. */
 uint64_t residues_solve(uint32_t p, uint32_t n, uint32_t r, uint32_t s,
                         const uint32_t *table, size_t table_len, const uint32_t *column, size_t column_len,
                         uint32_t *work, size_t work_len, uint32_t *result, size_t result_len);
 
-/* The same column for n to 256, also where a leading corner is singular and the whole matrix is not: n words, to the result. Reads
- * the table and the column. Square lends n * n words; it is not read, and holds n * n zeros afterwards, on 7 as well, which is the
- * one refusal that writes; every other leaves it, and each leaves the result. Refuses 1, 2, 3, 4, 5, 7: 2 where n is not 1 to 256;
- * 7 where the whole matrix is singular, that is, sends some column, not all zeros, to zeros, beside it 1 and row 0. Else there is
- * only one such column. Where residues_solve accepts too, both results are equal. It takes about n * n * n / 3 multiplications. */
+/* The only column that the table sends to the given column, n words, to the result, for n to 256, also where a leading corner is
+ * singular and the whole matrix is not. Reads the table and the column. Square lends n * n words; it is not read, and holds n * n
+ * zeros afterwards, on 7 as well, which is the one refusal that writes; every other leaves it, and each leaves the result. Refuses 1,
+ * 2, 3, 4, 5, 7: 2 where n is not 1 to 256; 7 where the whole matrix is singular, that is, sends some column, not all zeros, to zeros,
+ * beside it 1 and row 0. Where residues_solve accepts too, both results are equal. It takes about n * n * n / 3 multiplications. */
 uint64_t residues_solve_dense(uint32_t p, uint32_t n, uint32_t r, uint32_t s,
                               const uint32_t *table, size_t table_len, const uint32_t *column, size_t column_len,
                               uint32_t *square, size_t square_len, uint32_t *result, size_t result_len);

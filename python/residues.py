@@ -240,10 +240,10 @@ def product(p, n, r1, s1, r2, s2, first, second):
 
 
 def solve(p, n, r, s, table, column, *, dense=False):
-    """The column that the table sends to the given one. Refused 7 names the row where the least singular leading corner ends; the
-    matrix may have an inverse all the same. With dense=True and n to 256 solve_dense is asked then, and its answer or refusal is
-    what comes: refused 7 with row 0 where the whole matrix is singular, the first refusal being its __context__. Above 256 the first
-    refusal stands."""
+    """The column that the table sends to the given one. Refused 7 names the row where the least singular leading corner ends; where
+    that is not the last row the matrix may have an inverse all the same. With dense=True and n to 256 solve_dense is asked then, and
+    its answer or refusal is what comes: refused 7 with row 0 where the whole matrix is singular, the first refusal being its
+    __context__. Above 256 the first refusal stands."""
     _, n, _, s = numbers = _numbers(p=p, n=n, r=r, s=s)
     lent = _lent(table=table, column=column)
     try:
@@ -255,8 +255,9 @@ def solve(p, n, r, s, table, column, *, dense=False):
 
 
 def solve_dense(p, n, r, s, table, column):
-    """The same column for n to 256, also where a leading corner is singular. Refused 7, row 0, says that the whole matrix is singular:
-    no column is sent to the given one, or more than one is. About n * n * n / 3 multiplications, in n * n words."""
+    """The column that the table sends to the given one, for n to 256, also where a leading corner is singular. Refused 7, row 0, says
+    that the whole matrix is singular: no column is sent to the given one, or more than one is. About n * n * n / 3 multiplications,
+    in n * n words."""
     return _dense_call(_numbers(p=p, n=n, r=r, s=s), _lent(table=table, column=column))
 
 

@@ -58,7 +58,7 @@ pub fn sound(call: &Call, random: &mut Random) -> Case {
         make_regular(p, shape, &mut case.buffer_mut(1).words, random);
     }
     if call.is_dense() {
-        make_dense_regular(&mut case, random);
+        make_nonsingular(&mut case, random);
     }
     if call.number == Number::Prime {
         make_fractions(&mut case, random);
@@ -260,9 +260,9 @@ pub fn make_zero_pivot(p: u32, shape: Shape, words: &mut [u32], k: usize, random
     choose_pivots(p, shape, words, pivot);
 }
 
-/// Mostly takes a table with a singular corner whose matrix is regular, if one of a few draws is such, else changes d's until every
-/// corner is regular.
-fn make_dense_regular(case: &mut Case, random: &mut Random) {
+/// Mostly takes a table with a singular corner whose matrix is not singular, if one of a few draws is such, else changes d's until no
+/// corner is.
+fn make_nonsingular(case: &mut Case, random: &mut Random) {
     let (p, shape) = (case.p, case.shape(0));
     let draws = if shape.n > 40 { 2 } else { 8 };
     for _ in 0..if random.once_in(3) { 0 } else { draws } {

@@ -10,14 +10,14 @@ use Rattle.lists.specs.Lists.{tabulate, over}
 use Rattle.table.specs.Words.{Table, matrixOf}
 use Rattle.table.specs.Replies.{Reply, Check, check, accept, refuse, answer, after}
 use Rattle.table.specs.Results.{column, columnWords}
-use Rattle.elimination.specs.Elimination.{regular, solution}
+use Rattle.elimination.specs.Elimination.{nonsingular, solution}
 use Rattle.table.specs.Limits.{upTo}
 use Rattle.table.specs.Calls.{systemChecks}
 
 module _ (P N : ℕ) (A : Table) where
   -- elimination with row exchanges finds every pivot of the table's matrix
-  unfoldable pub regularW : Bool
-  regularW = regular (residues P) N (matrixOf P N A)
+  unfoldable pub nonsingularW : Bool
+  nonsingularW = nonsingular (residues P) N (matrixOf P N A)
 
   -- the words of the solution
   unfoldable pub denseW : List ℕ → List ℕ
@@ -29,7 +29,7 @@ module _ (P N : ℕ) (A : Table) where
     denseEarlier = systemChecks P N A (upTo 256) (N * N) x v d
 
     abbrev pub denseChecks : List Check
-    denseChecks = denseEarlier ++ (check (not regularW) (refuse 7 1 0) ∷ [])
+    denseChecks = denseEarlier ++ (check (not nonsingularW) (refuse 7 1 0) ∷ [])
 
     unfoldable pub denseReply : Reply
     denseReply = answer denseChecks (accept 0)

@@ -42,7 +42,7 @@ pub record DenseCauses (P N : ℕ) (A : Table) (x v d : List ℕ) (clear : ℕ �
   pub result-long : clear 6 ↔ (N ≤ length d)
   pub table-below : clear 7 ↔ WordsBelow P N A
   pub column-below : clear 8 ↔ ((k : ℕ) → k < N → getD x k 0 < P)
-  pub regular : Prime P → clear 9 ↔ (WholeSingular P N A → ⊥)
+  pub nonsingular : Prime P → clear 9 ↔ (WholeSingular P N A → ⊥)
 
 pub record DensePromises (P N : ℕ) (A : Table) (x v d : List ℕ) : Type 0 where
   -- accepted exactly where all is good and the whole matrix is not singular

@@ -24,13 +24,13 @@ use Rattle.table.specs.WordLaws.{words-below, place-below, place-good, place-sa
 use Rattle.table.specs.Replies.{Reply, Check, Accepted, NoFault, causeAt, check, accept, refuse, answer, after, short}
 use Rattle.table.specs.Results.{column}
 use Rattle.table.specs.Calls.{tableLength, sizeChecks, solveReply, solveAfter}
-use Rattle.table.specs.CallLaws.{lacks, none-gave, all-clear, value-is, kept, surplus, after-is, after-length, answer-append, open-checks, none-row}
+use Rattle.table.specs.CallLaws.{AllClear, lacks, none-gave, all-clear, value-is, kept, surplus, after-is, after-length, answer-append, open-checks, none-row}
 use Rattle.table.specs.AcceptsProof.{causes as badCauses}
 use Rattle.table.specs.PackedProof.{Fits, AllFit, fit-nil, fit-cons, parts, fits-answer, plain, zero-fits, size-is}
 use Rattle.table.specs.UndertakingsProof.{first, second, third}
-use Rattle.elimination.specs.Elimination.{regular, solution}
-use Rattle.elimination.specs.EliminationLaws.{solution-solves, solution-only, regular-exactly}
-use Rattle.dense.specs.DenseCall.{regularW, denseW, denseEarlier, denseChecks, denseReply, denseAfter, squareAfter}
+use Rattle.elimination.specs.Elimination.{nonsingular, solution}
+use Rattle.elimination.specs.EliminationLaws.{solution-solves, solution-only, nonsingular-exactly}
+use Rattle.dense.specs.DenseCall.{nonsingularW, denseW, denseEarlier, denseChecks, denseReply, denseAfter, squareAfter}
 use Rattle.dense.specs.DensePromises.{GoodSystem, WholeSingular, DenseCauses, DensePromises, DenseUnused}
 
 module _ (P N : ℕ) (A : Table) (x v d : List ℕ) where
@@ -45,7 +45,7 @@ module _ (P N : ℕ) (A : Table) (x v d : List ℕ) where
 
   -- the last check
   abbrev end : List Check
-  end = check (not (regularW P N A)) (refuse 7 1 0) ∷ []
+  end = check (not (nonsingularW P N A)) (refuse 7 1 0) ∷ []
 
   abbrev y : Reply
   y = denseReply P N A x v d
@@ -54,19 +54,19 @@ module _ (P N : ℕ) (A : Table) (x v d : List ℕ) where
 
   -- the last one passes where the whole matrix is not singular
   module _ (prime : Prime P) where
-    is-regular : (WholeSingular P N A → ⊥) → regular K N M ≡ true
-    is-regular n = go (regular K N M) refl
+    is-nonsingular : (WholeSingular P N A → ⊥) → nonsingular K N M ≡ true
+    is-nonsingular n = go (nonsingular K N M) refl
       where
-        go : (b : Bool) → regular K N M ≡ b → b ≡ true
+        go : (b : Bool) → nonsingular K N M ≡ b → b ≡ true
         go true e = refl
-        go false e = absurd (n (regular-exactly (field P prime) N M .0 e))
+        go false e = absurd (n (nonsingular-exactly (field P prime) N M .0 e))
 
-    not-singular : regular K N M ≡ true → WholeSingular P N A → ⊥
-    not-singular r s = clash (sym r ∙ regular-exactly (field P prime) N M .1 s)
+    not-singular : nonsingular K N M ≡ true → WholeSingular P N A → ⊥
+    not-singular r s = clash (sym r ∙ nonsingular-exactly (field P prime) N M .1 s)
 
-    regular-clear : (not (regularW P N A) ≡ false) ↔ (WholeSingular P N A → ⊥)
-    unfolding regularW
-    regular-clear = ((λ e. not-singular (not-false _ e)), λ n. ap not (is-regular n))
+    nonsingular-clear : (not (nonsingularW P N A) ≡ false) ↔ (WholeSingular P N A → ⊥)
+    unfolding nonsingularW
+    nonsingular-clear = ((λ e. not-singular (not-false _ e)), λ n. ap not (is-nonsingular n))
 
   causes : DenseCauses P N A x v d (λ k. causeAt (denseChecks P N A x v d) k ≡ false)
   causes = record {
@@ -79,41 +79,47 @@ module _ (P N : ℕ) (A : Table) (x v d : List ℕ) where
     result-long = badCauses .short d N;
     table-below = (λ e. words-below P N A .0 (none-row (firstBad P N A) .0 e), λ h. none-row (firstBad P N A) .1 (words-below P N A .1 h));
     column-below = (λ e. place-below P N x (none-row (firstBadPlace P N x) .0 e), λ h. none-row (firstBadPlace P N x) .1 (place-good P N x h));
-    regular = regular-clear;
+    nonsingular = nonsingular-clear;
   }
 
   earlier-good : NoFault earlier → GoodSystem P N A x v d
   earlier-good z =
       let c = causes in
       let p = c .prime .0 (z 0) in
-      let s = c .size .0 (z 1) in
-      ((p .0, p .1, s .0, s .1), (c .orders .0 (z 2), c .table-long .0 (z 3), c .table-below .0 (z 7)), (c .column-long .0 (z 4), c .column-below .0 (z 8)),
-      c .square-long .0 (z 5), c .result-long .0 (z 6))
+      let s = c .size .0 (z 1) in (
+        (p .0, p .1, s .0, s .1),
+        (c .orders .0 (z 2), c .table-long .0 (z 3), c .table-below .0 (z 7)),
+        (c .column-long .0 (z 4), c .column-below .0 (z 8)),
+        c .square-long .0 (z 5),
+        c .result-long .0 (z 6),
+      )
 
   good-earlier : GoodSystem P N A x v d → NoFault earlier
   good-earlier g =
       let c = causes in
-      all-clear earlier (c .prime .1 (g .0 .0, g .0 .1), (c .size .1 (g .0 .2, g .0 .3), (c .orders .1 (g .1 .0), (c .table-long .1 (g .1 .1), (c .column-long .1 (g .2 .0),
-      (c .square-long .1 (g .3), (c .result-long .1 (g .4), (c .table-below .1 (g .1 .2), (c .column-below .1 (g .2 .1), tt)))))))))
+      let words : AllClear (drop 7 earlier) = (c .table-below .1 (g .1 .2), (c .column-below .1 (g .2 .1), tt)) in
+      let rooms : AllClear (drop 5 earlier) = (c .square-long .1 (g .3), (c .result-long .1 (g .4), words)) in
+      let others : AllClear (drop 3 earlier) = (c .table-long .1 (g .1 .1), (c .column-long .1 (g .2 .0), rooms)) in
+      all-clear earlier (c .prime .1 (g .0 .0, g .0 .1), (c .size .1 (g .0 .2, g .0 .3), (c .orders .1 (g .1 .0), others)))
 
   -- the last check decides where the others pass, and they pass where the reply is accepted or has the number 7
   split : y ≡ answer earlier (answer end (accept 0))
   unfolding denseReply
   split = answer-append earlier end (accept 0)
 
-  decided : GoodSystem P N A x v d → y ≡ pick (not (regularW P N A)) (refuse 7 1 0) (accept 0)
+  decided : GoodSystem P N A x v d → y ≡ pick (not (nonsingularW P N A)) (refuse 7 1 0) (accept 0)
   unfolding answer
   decided g = split ∙ open-checks earlier (answer end (accept 0)) (good-earlier g)
 
   good-at : (m : ℕ) → lacks m earlier ≡ true → y .number ≡ m → GoodSystem P N A x v d
   good-at m r e = earlier-good (none-gave m earlier (answer end (accept 0)) r (ap (λ (w : Reply). w .number) (sym split) ∙ e))
 
-  on-regular : GoodSystem P N A x v d → regular K N M ≡ true → y ≡ accept 0
-  unfolding regularW
-  on-regular g r = decided g ∙ ap (λ (b : Bool). pick (not b) (refuse 7 1 0) (accept 0)) r
+  on-nonsingular : GoodSystem P N A x v d → nonsingular K N M ≡ true → y ≡ accept 0
+  unfolding nonsingularW
+  on-nonsingular g r = decided g ∙ ap (λ (b : Bool). pick (not b) (refuse 7 1 0) (accept 0)) r
 
-  on-singular : GoodSystem P N A x v d → regular K N M ≡ false → y ≡ refuse 7 1 0
-  unfolding regularW
+  on-singular : GoodSystem P N A x v d → nonsingular K N M ≡ false → y ≡ refuse 7 1 0
+  unfolding nonsingularW
   on-singular g r = decided g ∙ ap (λ (b : Bool). pick (not b) (refuse 7 1 0) (accept 0)) r
 
   -- a reply is not accepted and refused with 7
@@ -122,19 +128,19 @@ module _ (P N : ℕ) (A : Table) (x v d : List ℕ) where
 
   accepts : Accepted y ↔ (GoodSystem P N A x v d × (WholeSingular P N A → ⊥))
   accepts = (
-    (λ ok. let g = good-at 0 refl ok in (g, λ s. apart ok (on-singular g (regular-exactly (field P (g .0 .0)) N M .1 s)))),
-    λ g. ap (λ (w : Reply). w .number) (on-regular (g .0) (is-regular (g .0 .0 .0) (g .1))),
+    (λ ok. let g = good-at 0 refl ok in (g, λ s. apart ok (on-singular g (nonsingular-exactly (field P (g .0 .0)) N M .1 s)))),
+    λ g. ap (λ (w : Reply). w .number) (on-nonsingular (g .0) (is-nonsingular (g .0 .0 .0) (g .1))),
   )
 
   singular : (y ≡ refuse 7 1 0) ↔ (GoodSystem P N A x v d × WholeSingular P N A)
-  singular = (there, λ g. on-singular (g .0) (regular-exactly (field P (g .0 .0 .0)) N M .1 (g .1)))
+  singular = (there, λ g. on-singular (g .0) (nonsingular-exactly (field P (g .0 .0 .0)) N M .1 (g .1)))
     where
       there : y ≡ refuse 7 1 0 → GoodSystem P N A x v d × WholeSingular P N A
-      there e = let g = good-at 7 refl (ap (λ (w : Reply). w .number) e) in (g, go g (regular K N M) refl)
+      there e = let g = good-at 7 refl (ap (λ (w : Reply). w .number) e) in (g, go g (nonsingular K N M) refl)
         where
-          go : GoodSystem P N A x v d → (b : Bool) → regular K N M ≡ b → WholeSingular P N A
-          go g true q = apart (ap (λ (w : Reply). w .number) (on-regular g q)) e
-          go g false q = regular-exactly (field P (g .0 .0)) N M .0 q
+          go : GoodSystem P N A x v d → (b : Bool) → nonsingular K N M ≡ b → WholeSingular P N A
+          go g true q = apart (ap (λ (w : Reply). w .number) (on-nonsingular g q)) e
+          go g false q = nonsingular-exactly (field P (g .0 .0)) N M .0 q
 
   large : Prime P → P ≤ 2147483647 → 256 < N → y ≡ refuse 2 0 0
   unfolding denseReply answer
@@ -150,8 +156,8 @@ module _ (P N : ℕ) (A : Table) (x v d : List ℕ) where
     good : GoodSystem P N A x v d
     good = accepts .0 ok .0
 
-    regular-here : regular K N M ≡ true
-    regular-here = is-regular (good .0 .0) (accepts .0 ok .1)
+    nonsingular-here : nonsingular K N M ≡ true
+    nonsingular-here = is-nonsingular (good .0 .0) (accepts .0 ok .1)
 
     -- the words of the result
     word-is : (k : ℕ) → k < N → getD (denseAfter P N A x v d) k 0 ≡ val P (solution K N M (column P x) k)
@@ -162,10 +168,10 @@ module _ (P N : ℕ) (A : Table) (x v d : List ℕ) where
     column-is k h = ap (res P) (word-is k h) ∙ res-val P _
 
     solves : (k : ℕ) → k < N → sends K N M (column P (denseAfter P N A x v d)) k ≡ column P x k
-    solves k h = sum-ext K N _ _ (λ j l. ap (K .mul (M k j)) (column-is j l)) ∙ solution-solves (field P (good .0 .0)) N M (column P x) regular-here k h
+    solves k h = sum-ext K N _ _ (λ j l. ap (K .mul (M k j)) (column-is j l)) ∙ solution-solves (field P (good .0 .0)) N M (column P x) nonsingular-here k h
 
     only : (z : ℕ → K .car) → ((k : ℕ) → k < N → sends K N M z k ≡ column P x k) → (k : ℕ) → k < N → z k ≡ column P (denseAfter P N A x v d) k
-    only z s k h = solution-only (field P (good .0 .0)) N M (column P x) regular-here z s k h ∙ sym (column-is k h)
+    only z s k h = solution-only (field P (good .0 .0)) N M (column P x) nonsingular-here z s k h ∙ sym (column-is k h)
 
     again : firstBadPlace P N (denseAfter P N A x v d) ≡ 0
     again = place-good P N (denseAfter P N A x v d) (λ k h. omega (arith, word-is k h, val-below P (prime-pos P (good .0 .0)) (solution K N M (column P x) k)))
@@ -177,7 +183,8 @@ module _ (P N : ℕ) (A : Table) (x v d : List ℕ) where
     agrees w c ok′ k h =
         let e : column P (solveAfter P N A x w c) k ≡ solution K N M (column P x) k =
         only (column P (solveAfter P N A x w c)) (λ k h. third P N .solve A x w c ok′ k h) k h ∙ column-is k h in
-        word-is k h ∙ sym (ap (val P) e) ∙ val-small P (prime-pos P (good .0 .0)) _ (place-below P N (solveAfter P N A x w c) (second .again P N A .solve x w c ok′) k h)
+        let below = place-below P N (solveAfter P N A x w c) (second .again P N A .solve x w c ok′) k h in
+        word-is k h ∙ sym (ap (val P) e) ∙ val-small P (prime-pos P (good .0 .0)) _ below
 
   no-worse : (w c : List ℕ) → Accepted (solveReply P N A x w c) → N ≤ 256 → N * N ≤ length v → N ≤ length d → Accepted y
   no-worse w c ok l r s =
@@ -194,7 +201,9 @@ module _ (P N : ℕ) (A : Table) (x v d : List ℕ) where
 
   in-use : (y .number ≡ 0) ⊎ (y .number ≡ 7) → squareAfter P N A x v d ≡ cleared
   in-use (inl e) = ap (λ (b : Bool). pick (b || eqb (y .number) 7) cleared v) (eq-eqb (y .number) 0 e)
-  in-use (inr e) = ap₂ (λ (a b : Bool). pick (a || b) cleared v) (ne-eqb (y .number) 0 (λ z. absurd (let q : 7 ≡ 0 = sym e ∙ z in omega arith))) (eq-eqb (y .number) 7 e)
+  in-use (inr e) =
+      let n : y .number ≢ 0 = λ z. absurd (let q : 7 ≡ 0 = sym e ∙ z in omega arith) in
+      ap₂ (λ (a b : Bool). pick (a || b) cleared v) (ne-eqb (y .number) 0 n) (eq-eqb (y .number) 7 e)
 
   left-alone : y .number ≢ 0 → y .number ≢ 7 → squareAfter P N A x v d ≡ v
   left-alone n m = ap₂ (λ (a b : Bool). pick (a || b) cleared v) (ne-eqb (y .number) 0 n) (ne-eqb (y .number) 7 m)
@@ -229,8 +238,8 @@ module _ (P N : ℕ) (A : Table) (x v d : List ℕ) where
     words-same : Accepted y → denseW P N A x ≡ denseW P N A x′
     unfolding denseW
     words-same ok = tabulate-same N _ _ (λ k h. ap (val P)
-        (solution-only (field P (good ok .0 .0)) N M (column P x′) (regular-here ok) (solution K N M (column P x))
-        (λ j q. solution-solves (field P (good ok .0 .0)) N M (column P x) (regular-here ok) j q ∙ ap (res P) (e j q)) k h))
+        (solution-only (field P (good ok .0 .0)) N M (column P x′) (nonsingular-here ok) (solution K N M (column P x))
+        (λ j q. solution-solves (field P (good ok .0 .0)) N M (column P x) (nonsingular-here ok) j q ∙ ap (res P) (e j q)) k h))
 
     result-same : denseAfter P N A x v d ≡ denseAfter P N A x′ v d
     result-same = go (ℕ-discrete (y .number) 0)
@@ -259,11 +268,16 @@ module _ (P N : ℕ) (A : Table) (x v d : List ℕ) where
   abbrev others : List Check
   others = drop 3 (denseChecks P N A x v d)
 
+  words-fit : N ≤ 256 → AllFit (drop 4 others)
+  words-fit h =
+      fit-cons _ _ (plain 5 1 _ (omega arith) (omega arith) (omega (arith, bad-le P N A)))
+      (fit-cons _ _ (plain 5 3 _ (omega arith) (omega arith) (omega (arith, place-le P N x)))
+      (fit-cons _ _ (plain 7 1 0 (omega arith) (omega arith) (omega arith)) fit-nil))
+
   others-fit : N ≤ 256 → AllFit others
   others-fit h =
-      fit-cons _ _ (short-fits 1 (omega arith)) (fit-cons _ _ (short-fits 3 (omega arith)) (fit-cons _ _ (short-fits 4 (omega arith)) (fit-cons _ _ (short-fits 5 (omega arith))
-      (fit-cons _ _ (plain 5 1 _ (omega arith) (omega arith) (omega (arith, bad-le P N A))) (fit-cons _ _ (plain 5 3 _ (omega arith) (omega arith) (omega (arith, place-le P N x)))
-      (fit-cons _ _ (plain 7 1 0 (omega arith) (omega arith) (omega arith)) fit-nil))))))
+      fit-cons _ _ (short-fits 1 (omega arith)) (fit-cons _ _ (short-fits 3 (omega arith))
+      (fit-cons _ _ (short-fits 4 (omega arith)) (fit-cons _ _ (short-fits 5 (omega arith)) (words-fit h))))
 
   fits : Fits y
   unfolding denseReply
@@ -296,14 +310,17 @@ promises P N A x v d = record {
   agrees = agrees P N A x v d;
   no-worse = no-worse P N A x v d;
   surplus = all-same P N A x v d;
-  unread = λ v′ d′ a b. (reply-unread P N A x v d v′ d′ a b, λ ok k h.
-      word-is P N A x v d ok k h ∙ sym (word-is P N A x v′ d′ (ap (λ (r : Reply). r .number) (sym (reply-unread P N A x v d v′ d′ a b)) ∙ ok) k h));
+  unread = λ v′ d′ a b. (
+    reply-unread P N A x v d v′ d′ a b,
+    λ ok k h.
+        word-is P N A x v d ok k h ∙ sym (word-is P N A x v′ d′ (ap (λ (r : Reply). r .number) (sym (reply-unread P N A x v d v′ d′ a b)) ∙ ok) k h),
+  );
   value = value-is (denseChecks P N A x v d) (accept 0) refl;
   packs = parts (denseReply P N A x v d) (fits P N A x v d);
 }
 
 pub unused : DenseUnused
-unfolding denseReply denseW regularW
+unfolding denseReply denseW nonsingularW
 unused P N A t u l x v d =
     let f : firstBad P N A ≡ firstBad P N (withWords A t) = firstBad-same P N A t u in
     let m : matrixOf P N A ≡ matrixOf P N (withWords A t) = matrix-same P N A t u in

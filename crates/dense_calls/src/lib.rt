@@ -11,10 +11,10 @@ ghost use Rattle.lists.specs.Lists.{tabulate};
 ghost use Rattle.table.specs.Words.{table as tab};
 ghost use Rattle.table.specs.Replies.{reply};
 ghost use Rattle.checks.specs.Passed.{Good};
-ghost use Rattle.dense.specs.DenseCall.{regularW, denseW, denseReply, denseAfter, squareAfter};
+ghost use Rattle.dense.specs.DenseCall.{nonsingularW, denseW, denseReply, denseAfter, squareAfter};
 
 // After the checks: the solution to the result, or false and the result as it was. The right-hand side is kept in a private column, since the result is
-// written only where the matrix is regular.
+// written only where the matrix is nonsingular.
 fn solve_words(
     m: Modulus,
     n: usize,
@@ -32,7 +32,7 @@ fn solve_words(
         × ((k : ℕ) → k < n → getD (now column) k 0 < m .p)
         × (n * n ≤ length (now square))
         × (n ≤ length (now result)) ⌝ }
-    ensures { λ found. ⌜ found ≡ regularW (m .p) n (tab r s (now (table .entry))) ⌝ }
+    ensures { λ found. ⌜ found ≡ nonsingularW (m .p) n (tab r s (now (table .entry))) ⌝ }
     ensures { λ _. ⌜ now (square .exit) ≡ tabulate (n * n) (λ e. 0) ++ drop (n * n) (now (square .entry)) ⌝ }
     ensures { λ found. ⌜ (found ≡ true
         → now (result .exit) ≡ denseW (m .p) n (tab r s (now (table .entry))) (now (column .entry)) ++ drop n (now (result .entry)))

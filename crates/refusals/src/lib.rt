@@ -72,7 +72,9 @@ pub fn check_system(
     room: usize,
 ) -> Reply
     requires { ⌜ most ≤ 1024 ⌝ }
-    ensures { λ y. ⌜ ((v d : List ℕ) → length v ≡ work → length d ≡ room → reply (y .number) (y .buffer) (y .row) (y .value) ≡ answer (systemChecks p n (tab r s (now (t .entry))) (upTo most) need (now (x .entry)) v d) (accept 0)) ⌝ }
+    ensures { λ y. ⌜ ((v d : List ℕ) → length v ≡ work → length d ≡ room
+        → reply (y .number) (y .buffer) (y .row) (y .value)
+        ≡ answer (systemChecks p n (tab r s (now (t .entry))) (upTo most) need (now (x .entry)) v d) (accept 0)) ⌝ }
 {
     let y = checks::numbers_up_to(most, p, n, r, s);
     if y.number != 0 {
@@ -112,7 +114,8 @@ pub fn check_solve(
     work: usize,
     room: usize,
 ) -> Reply
-    ensures { λ y. ⌜ ((v d : List ℕ) → length v ≡ work → length d ≡ room → reply (y .number) (y .buffer) (y .row) (y .value) ≡ answer (solveEarlier p n (tab r s (now (t .entry))) (now (x .entry)) v d) (accept 0)) ⌝ }
+    ensures { λ y. ⌜ ((v d : List ℕ) → length v ≡ work → length d ≡ room
+        → reply (y .number) (y .buffer) (y .row) (y .value) ≡ answer (solveEarlier p n (tab r s (now (t .entry))) (now (x .entry)) v d) (accept 0)) ⌝ }
 {
     let need = n as usize * s as usize;
     check_system(p, n, r, s, 1024, t, x, work, need, room)

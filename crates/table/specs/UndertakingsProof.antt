@@ -18,7 +18,9 @@ use Rattle.table.specs.Limits.{housePrime}
 use Rattle.lists.specs.Lists.{tabulate, rowsOf, firstOf}
 use Rattle.lists.specs.ListLaws.{getD-here, getD-tabulate, length-tabulate, length-rows, getD-rows-more, tabulate-same, same-first}
 use Rattle.table.specs.Words.{Table, table, withWords, gap, width, place, gens, matrixOf, rowGens, tableWords, badRow, firstBad, firstBadPlace, Used, SameUsed, SameColumn}
-use Rattle.table.specs.WordLaws.{width-swap, idle-unused, place-lt, room, written, written-unused, written-good, length-table, gens-same, firstBad-same, matrix-same, row-same, bad-same, bad-first, bad-none, place-first, place-none, place-good, place-same}
+use Rattle.table.specs.WordLaws.{width-swap, idle-unused, place-lt, room, written, written-unused, written-good, length-table}
+use Rattle.table.specs.WordLaws.{gens-same, firstBad-same, matrix-same, row-same, bad-same, bad-first, bad-none}
+use Rattle.table.specs.WordLaws.{place-first, place-none, place-good, place-same}
 use Rattle.table.specs.RowFile.{fileBytes, bytesOf, primeOf, headP, headN, headR, headS, fileWord, recordAt, met, broken, firstBroken, fileRowWord, fileGens, firstBadInFile, fileWordsOf, fileWords, readW, writeW}
 use Rattle.table.specs.RowFileLaws.{chain-first, chain-none, is-right, right-met, right-end, file-bad-first, file-bad-none, below-tabulate, below-rows}
 use Rattle.table.specs.FileLaws.{left-length, writes-file, reads-back, read-length, read-chain, reads-file}

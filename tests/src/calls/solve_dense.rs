@@ -1,4 +1,4 @@
-//! The column that the table sends to a given one, wherever the whole matrix is regular: worked out in a lent square.
+//! The column that the table sends to a given one, wherever the whole matrix is not singular: worked out in a lent square.
 
 use super::{no_more, Answer, Call, Number};
 use crate::case::{Case, Holds};

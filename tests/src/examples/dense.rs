@@ -5,7 +5,7 @@ use crate::calls::solve_dense::CALL;
 use crate::case::Case;
 use crate::refusals::LARGEST_PRIME;
 
-/// Rows 0 1 and 1 6: regular, with a zero first.
+/// Rows 0 1 and 1 6: not singular, with a zero first.
 const ZERO_FIRST: [u32; 14] = [0, 0, 0, 1, 1, 0, 0, 6, 1, 0, 0, 0, 0, 1];
 
 /// The table, the column, and what lies in the square and the result.

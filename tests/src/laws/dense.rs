@@ -24,11 +24,11 @@ const MORE_SIZES: [usize; 4] = [100, 129, 255, 256];
 /// Each size in each way.
 pub const SINGULAR: u64 = (64 + MORE_SIZES.len() as u64) * SINGULAR_WAYS as u64;
 
-/// A table, made so that its first singular corner is known, and whether its whole matrix is regular.
+/// A table, made so that its first singular corner is known, and whether its whole matrix is singular.
 struct Made {
     table: Factor,
     corner: Option<usize>,
-    regular: bool,
+    singular: bool,
 }
 
 impl Laws {
@@ -51,7 +51,7 @@ impl Laws {
         self.dense_owes(&table, &column, None)
     }
 
-    /// A regular or singular product, of known factors, of at most 40 rows.
+    /// A product of known factors, singular or not, of at most 40 rows.
     pub fn dense_products(&mut self) -> Result<(), String> {
         let n = if self.random.once_in(4) { self.between(13, 40) } else { self.between(1, 12) };
         self.dense_product(n)
@@ -64,10 +64,10 @@ impl Laws {
     }
 
     /// Solve names the first singular corner, or gives the same column; the dense solve gives the known one wherever the matrix is
-    /// regular.
+    /// not singular.
     fn dense_product(&mut self, n: usize) -> Result<(), String> {
         let p = cases::draw_prime(&mut self.random);
-        let Made { table, corner, regular } = self.made(p, n);
+        let Made { table, corner, singular } = self.made(p, n);
         let x = self.draw_column(p, n);
         let column = table.sends(&x);
         let case = self.case(&solve::CALL, &[&table], 0, &column);
@@ -76,12 +76,12 @@ impl Laws {
             None if only_accepted(&solve::CALL, &case)? != x => return Err("solve gives another column".into()),
             None => {}
         }
-        self.tally.law(match (regular, corner) {
-            (true, None) => "dense, both accepted",
-            (true, _) => "dense, only solve refused",
-            (false, _) => "dense, both refused",
+        self.tally.law(match (singular, corner) {
+            (false, None) => "dense, both accepted",
+            (false, _) => "dense, only solve refused",
+            (true, _) => "dense, both refused",
         });
-        self.dense_owes(&table, &column, regular.then_some(x))
+        self.dense_owes(&table, &column, (!singular).then_some(x))
     }
 
     /// A lower triangular table times a permutation's weights times an upper triangular one. A diagonal or the weights may have a zero:
@@ -90,19 +90,19 @@ impl Laws {
     fn made(&mut self, p: u32, n: usize) -> Made {
         let (most, row) = (self.between(0, LARGEST_ORDER), self.random.below(n));
         let to = self.draw_permutation(n, most);
-        let singular = if self.random.once_in(3) { 1 + self.random.below(3) } else { 0 };
-        let weights = self.draw_weights(p, n, (singular == 1).then_some(row));
+        let zero = if self.random.once_in(3) { 1 + self.random.below(3) } else { 0 };
+        let weights = self.draw_weights(p, n, (zero == 1).then_some(row));
         let middle = self.monomial(p, &to, &weights);
         let (r, s) = (LARGEST_ORDER - middle.shape.r as u32, LARGEST_ORDER - middle.shape.s as u32);
         let (r, s) = (self.random.between(0, r), self.random.between(0, s));
         let (mut lower, mut upper) = (self.draw(p, n, r, 0), self.draw(p, n, 0, s));
         for (side, way) in [(&mut lower, 2), (&mut upper, 3)] {
-            let diagonal = self.draw_weights(p, n, (singular == way).then_some(row));
+            let diagonal = self.draw_weights(p, n, (zero == way).then_some(row));
             diagonal.iter().enumerate().for_each(|(k, &d)| side.words[side.shape.places(Kind::D, k + 1).start] = d);
         }
         let moved = (1..=n).find(|&k| to[..k].iter().any(|&j| j >= k));
-        let corner = moved.into_iter().chain((singular > 0).then_some(row + 1)).min();
-        Made { table: lower.times(&middle).times(&upper), corner, regular: singular == 0 }
+        let corner = moved.into_iter().chain((zero > 0).then_some(row + 1)).min();
+        Made { table: lower.times(&middle).times(&upper), corner, singular: zero > 0 }
     }
 
     /// Residues other than 0, but for one at the given row.

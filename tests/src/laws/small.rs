@@ -80,7 +80,8 @@ impl Laws {
         let is_singular = sent.iter().filter(|column| column.iter().all(|&x| x == 0)).count() > 1;
         for column in &columns {
             let solution = (!is_singular).then(|| {
-                let only = sent.iter().position(|other| other == column).expect("a regular matrix sends a column to each");
+                let only =
+                    sent.iter().position(|other| other == column).expect("a matrix that is not singular sends one to each");
                 columns[only].clone()
             });
             assert_eq!(matrix.only_solution(column), solution, "the dense program finds another solution");

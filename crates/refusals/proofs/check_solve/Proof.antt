@@ -2,7 +2,6 @@
 use borrow.Author.Needs.{needs}
 use native.Mathlib.Omega.{arith}
 use native.Mathlib.Nat.{mul-le-mul}
-use Prim.Native.Nat.{_≤_}
 use Rattle.refusals.proofs.check_solve.Statement.{statement}
 use Rattle.refusals.proofs.check_solve.Tie as tie
 
