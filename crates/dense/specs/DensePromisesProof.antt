@@ -82,7 +82,8 @@ module _ (P N : ℕ) (A : Table) (x v d : List ℕ) where
     nonsingular = nonsingular-clear;
   }
 
-  earlier-good : NoFault earlier → GoodSystem P N A x v d
+  -- what the checks before the last one have shown, where they pass
+  pub earlier-good : NoFault earlier → GoodSystem P N A x v d
   earlier-good z =
       let c = causes in
       let p = c .prime .0 (z 0) in

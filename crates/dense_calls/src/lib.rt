@@ -50,6 +50,7 @@ fn solve_words(
     true
 }
 
+// The call: the checks; the solution; or 7 beside row 0, where the whole matrix is singular.
 pub fn solve_dense(
     p: u32,
     n: u32,

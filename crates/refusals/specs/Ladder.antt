@@ -92,14 +92,17 @@ module _ (P N : ℕ) (A : Table) (y : Reply) (e : Numbers P N A y) where
 pub order-within : (r s : ℕ) → badOrder (standard .order) r s ≡ false → (r ≤ 8) × (s ≤ 8)
 order-within r s e = let o = both-hold (leb r (standard .order)) (leb s (standard .order)) e in (leb-true r 8 (o .0), leb-true s 8 (o .1))
 
+limits-within : (most N : ℕ) (A : Table) → badSize most N ≡ false → badOrder (standard .order) (A .lower) (A .upper) ≡ false
+    → (N ≤ most) × (A .lower ≤ 8) × (A .upper ≤ 8)
+limits-within most N A size orders =
+    let o = order-within (A .lower) (A .upper) orders in (leb-true N most (both-hold (leb 1 N) (leb N most) size .1), o .0, o .1)
+
 pub within : (P N : ℕ) (A : Table) → Clear P N A → (N ≤ 1024) × (A .lower ≤ 8) × (A .upper ≤ 8)
-within P N A z = let o = order-within (A .lower) (A .upper) (z .orders) in (leb-true N 1024 (both-hold (leb 1 N) (leb N (standard .size)) (z .size) .1), o .0, o .1)
+within P N A z = limits-within 1024 N A (z .size) (z .orders)
 
 pub sizes-within : (most P N : ℕ) (A : Table) (y : Reply) → y ≡ answer (sizeChecks P N (upTo most) A []) (accept 0) → y .number ≡ 0
     → (N ≤ most) × (A .lower ≤ 8) × (A .upper ≤ 8)
-sizes-within most P N A y e ok =
-    let z = sizes-clear most P N A y e ok in let o = order-within (A .lower) (A .upper) (z 2) in
-    (leb-true N most (both-hold (leb 1 N) (leb N most) (z 1) .1), o .0, o .1)
+sizes-within most P N A y e ok = let z = sizes-clear most P N A y e ok in limits-within most N A (z 1) (z 2)
 
 -- The causes as code tests them: a table of n rows of w words, a buffer of given length, a search's row.
 pub table-short : (t : List ℕ) (n w W : ℕ) → w ≡ W → length t < n * w → short t (n * W) ≡ true

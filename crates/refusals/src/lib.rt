@@ -104,6 +104,7 @@ pub fn check_system(
     y
 }
 
+// Those of solve, whose work has N s words.
 pub fn check_solve(
     p: u32,
     n: u32,
