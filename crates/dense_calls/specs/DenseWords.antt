@@ -6,7 +6,7 @@ use native.Mathlib.Nat.{mul-le-mul-right}
 use native.Mathlib.Omega.{arith}
 use lib.ListN.{length, getD, drop}
 use lib.Seq.{drop-at}
-use borrow.Rule.Slice.PartMut.{midOf, putMid, mid-len, post-is}
+use borrow.Rule.Slice.PartMut.{midOf, putMid, mid-len, post-is, same-len-mid}
 use Rattle.field.specs.Residue.{residues, val, val-small}
 use Rattle.lists.specs.Lists.{tabulate}
 use Rattle.lists.specs.ListLaws.{length-tabulate, length-rows, getD-tabulate, getD-here, getD-rows-more, tabulate-same}
@@ -17,6 +17,7 @@ use Rattle.calls.specs.Finish.{written-length}
 use Rattle.elimination.specs.Elimination.{solution}
 use Rattle.dense_rows.specs.DenseRows.{Square, Beside}
 use Rattle.dense_rows.specs.RowLaws.{under}
+use Rattle.dense_rows.specs.Tails.{lent-again}
 use Rattle.dense_solves.specs.Progress.{Holds, HoldsColumn}
 use Rattle.lists.specs.Parts.{part-word}
 use Rattle.dense.specs.DenseCall.{denseW}
@@ -55,7 +56,7 @@ module _ {P n : ℕ} {A : Table} {b v : List ℕ} (g : Given P n A b v) where
         ∙ getD-tabulate n (λ j. val P (matrixOf P n A i j)) j hj
 
     pub square-good : Square P n lent
-    square-good = record { room = omega (arith, square-long); below = λ i j hi hj. under P (g .pos) (matrixOf P n A i j) (square-holds i j hi hj) }
+    square-good = record { long = square-long; below = λ i j hi hj. under P (g .pos) (matrixOf P n A i j) (square-holds i j hi hj) }
 
     -- the square cleared
     pub square-leaves : {y : List ℕ} → y ≡ tabulate (length lent) (λ e. 0) → putMid 0 (n * n - 0) sq y ≡ tabulate (n * n) (λ e. 0) ++ drop (n * n) v
@@ -63,29 +64,45 @@ module _ {P n : ℕ} {A : Table} {b v : List ℕ} (g : Given P n A b v) where
         ap₂ _++_ (q ∙ ap (λ (m : ℕ). tabulate m (λ e. 0)) square-long)
         (post-is 0 (n * n) sq (omega arith) ∙ ap (drop (n * n)) e ∙ drop-at (matrixW P n A) (drop (n * n) v) (n * n) matrix-length)
 
+  -- the first n words of t, lent
+  abbrev first : List ℕ → List ℕ
+  first t = midOf 0 (n - 0) t
+
+  first-long : (t : List ℕ) → n ≤ length t → length (first t) ≡ n
+  first-long t room = mid-len 0 n t room ∙ omega arith
+
+  first-word : (t : List ℕ) (k : ℕ) → k < n → getD (first t) k 0 ≡ getD t k 0
+  first-word t k h = let z : 0 + k ≡ k = omega arith in part-word 0 (n - 0) t k (omega arith) ∙ ap (λ (m : ℕ). getD t m 0) z
+
   -- x is the private column with b copied to it
-  module _ (x rest : List ℕ) (e : x ≡ tabulate (length (midOf 0 (n - 0) b)) (λ j. getD (midOf 0 (n - 0) b) j 0) ++ rest) where
+  module _ (x rest : List ℕ) (e : x ≡ tabulate (length (first b)) (λ j. getD (first b) j 0) ++ rest) where
     copied : (k : ℕ) → k < n → getD x k 0 ≡ getD b k 0
     copied k h =
-        let l : length (midOf 0 (n - 0) b) ≡ n - 0 = mid-len 0 n b (g .long-column) in
-        let z : 0 + k ≡ k = omega arith in
-        ap (λ (y : List ℕ). getD y k 0) e ∙ getD-here (length (midOf 0 (n - 0) b)) _ rest k (omega arith)
-        ∙ part-word 0 (n - 0) b k (omega arith) ∙ ap (λ (m : ℕ). getD b m 0) z
+        ap (λ (y : List ℕ). getD y k 0) e ∙ getD-here (length (first b)) _ rest k (omega (arith, first-long b (g .long-column))) ∙ first-word b k h
 
-    pub column-holds : HoldsColumn P n x (column P b)
-    column-holds k h = copied k h ∙ sym (val-small P (g .pos) (getD b k 0) (g .below k h))
+    pub column-holds : HoldsColumn P n (first x) (column P b)
+    column-holds k h = first-word x k h ∙ copied k h ∙ sym (val-small P (g .pos) (getD b k 0) (g .below k h))
 
-    pub column-good : n ≤ length x → Beside P n x
-    column-good long = record { room = long; below = λ k h. omega (arith, copied k h, g .below k h) }
+    pub column-good : n ≤ length x → Beside P n (first x)
+    column-good room = record {
+      long = first-long x room;
+      below = λ k h. omega (arith, first-word x k h, copied k h, g .below k h);
+    }
 
-  -- the solution copied from the private column to the result
-  pub result-leaves : (x d : List ℕ) {out : List ℕ} → n ≤ length x → HoldsColumn P n x (solution (residues P) n (matrixOf P n A) (column P b))
-      → out ≡ tabulate (length (midOf 0 (n - 0) x)) (λ j. getD (midOf 0 (n - 0) x) j 0) ++ drop (length (midOf 0 (n - 0) x)) d
-      → out ≡ denseW P n A b ++ drop n d
-  unfolding denseW
-  result-leaves x d room h e =
-      let l : length (midOf 0 (n - 0) x) ≡ n = mid-len 0 n x room ∙ omega arith in
-      e ∙ ap (λ (m : ℕ). tabulate m (λ j. getD (midOf 0 (n - 0) x) j 0) ++ drop m d) l
-      ∙ ap (λ (y : List ℕ). y ++ drop n d) (tabulate-same n _ _ (λ k q.
-      let z : 0 + k ≡ k = omega arith in
-      part-word 0 (n - 0) x k (omega arith) ∙ ap (λ (m : ℕ). getD x m 0) z ∙ h k q))
+  -- y has come back to the first words of the private column x
+  module _ (x y : List ℕ) (room : n ≤ length x) (same : length y ≡ length (first x)) where
+    abbrev back : List ℕ
+    back = putMid 0 (n - 0) x y
+
+    pub back-room : n ≤ length back
+    back-room = omega (arith, same-len-mid {X = ℕ} 0 (n - 0) x y same)
+
+    -- it is the solution, and it is copied to the result
+    pub result-leaves : (d : List ℕ) {out : List ℕ} → HoldsColumn P n y (solution (residues P) n (matrixOf P n A) (column P b))
+        → out ≡ tabulate (length (first back)) (λ j. getD (first back) j 0) ++ drop (length (first back)) d → out ≡ denseW P n A b ++ drop n d
+    unfolding denseW
+    result-leaves d h e =
+        let l : length y ≡ n = same ∙ first-long x room in
+        e ∙ ap (λ (s : List ℕ). tabulate (length s) (λ j. getD s j 0) ++ drop (length s) d) (lent-again (n - 0) x y (l ∙ omega arith))
+        ∙ ap (λ (m : ℕ). tabulate m (λ j. getD y j 0) ++ drop m d) l
+        ∙ ap (λ (z : List ℕ). z ++ drop n d) (tabulate-same n _ _ h)

@@ -42,7 +42,7 @@ fn solve_words(
     dense_rows::copy(&mut x, &column[0..n]);
     entry_calls::matrix_rows(m, n, r, s, table, square);
     let words = n * n;
-    let found = dense_solves::solve(m, n, &mut square[0..words], &mut x);
+    let found = dense_solves::solve(m, n, &mut square[0..words], &mut x[0..n]);
     if !found {
         return false;
     }
