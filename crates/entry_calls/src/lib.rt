@@ -63,7 +63,7 @@ pub fn matrix_row(m: Modulus, n: usize, r: usize, s: usize, t: &[u32], i: usize,
     walks::fill_after(m, n, w, t, after, i, out);
 }
 
-// The whole matrix, row by row: the only place where the dense solve, too, reads a table.
+// The whole matrix, row by row. The dense solve fills its square by this.
 pub fn matrix_rows(m: Modulus, n: usize, r: usize, s: usize, t: &[u32], result: &mut [u32])
     requires { ⌜ Fit (m .p) (m .reciprocal) × Good (m .p) n (tab r s (now t)) × (n * n ≤ length (now result)) ⌝ }
     ensures { λ _. ⌜ now (result .exit) ≡ matrixW (m .p) n (tab r s (now (t .entry))) ++ drop (n * n) (now (result .entry)) ⌝ }
