@@ -1,11 +1,11 @@
--- Rows that agree within the blocks stand for one matrix.
-use mathlib.Core.Path.{_≡_, ap₂}
+-- Rows that agree within the blocks stand for one matrix; a leading corner goes by the orders of the gaps within it.
+use mathlib.Core.Path.{_≡_, refl, ap₂}
 use Prim.Native.Nat.{ℕ, zero, suc, _<_, _+_, _-_}
 use native.Mathlib.Omega.{arith}
 use native.Mathlib.Decide.{decLt}
 use borrow.Author.Tests.{lt-ltb, le-ltb}
 use Rattle.algebra.specs.Ring.{Ring}
-use Rattle.algebra.specs.Sums.{dot}
+use Rattle.algebra.specs.Sums.{act, dot}
 use Rattle.algebra.specs.Matrix.{Same}
 use Rattle.algebra.specs.Generators.{Gens, below, above, entryOf}
 use Rattle.algebra.specs.Kinds.{d-word, p-row, a-block, q-column, g-row, b-block, h-column, Agree}
@@ -36,3 +36,28 @@ module _ {K : Ring} (N : ℕ) (r s : ℕ → ℕ) (c c′ : ℕ → Gens K) (A :
       go (no n) (yes l) = rw (lt-ltb i j l, le-ltb j i (omega arith))
           (dots (s (suc i)) _ _ _ _ (λ k g. A i hi g-row 0 k (omega arith) g) (λ k g. above-same (j - suc i) (suc i) (omega arith) (omega arith) k g))
       go (no n) (no m) = rw (le-ltb j i (omega arith), le-ltb i j (omega arith)) (A i hi d-word 0 0 (omega arith) (omega arith))
+
+-- The entries of the first k rows and columns.
+module _ {K : Ring} (k : ℕ) (r r′ s s′ : ℕ → ℕ) (c : ℕ → Gens K)
+    (er : (m : ℕ) → 0 < m → m < k → r m ≡ r′ m) (es : (m : ℕ) → 0 < m → m < k → s m ≡ s′ m) where
+  below-gaps : (n j : ℕ) → n + j < k → below r s c n j ≡ below r′ s′ c n j
+  unfolding below
+  below-gaps zero j h = refl
+  below-gaps (suc n) j h =
+      ap₂ (λ (o : ℕ) (v : ℕ → K .car). act K o (c (suc n + j) .a) v) (er (suc n + j) (omega arith) (omega arith)) (below-gaps n j (omega arith))
+
+  above-gaps : (n i : ℕ) → n + i < k → above r s c n i ≡ above r′ s′ c n i
+  unfolding above
+  above-gaps zero i h = refl
+  above-gaps (suc n) i h = ap₂ (λ (o : ℕ) (v : ℕ → K .car). act K o (c i .b) v) (es (suc i) (omega arith) (omega arith)) (above-gaps n (suc i) (omega arith))
+
+  pub corner-agrees : Same K k (entryOf r s c) (entryOf r′ s′ c)
+  unfolding entryOf
+  corner-agrees i j hi hj = go (decLt j i) (decLt i j)
+    where
+      go : Dec (j < i) → Dec (i < j) → entryOf r s c i j ≡ entryOf r′ s′ c i j
+      go (yes l) m = rw (lt-ltb j i l)
+          (ap₂ (λ (o : ℕ) (v : ℕ → K .car). dot K o (c i .p) v) (er i (omega arith) hi) (below-gaps (i - suc j) j (omega arith)))
+      go (no n) (yes l) = rw (lt-ltb i j l, le-ltb j i (omega arith))
+          (ap₂ (λ (o : ℕ) (v : ℕ → K .car). dot K o (c i .g) v) (es (suc i) (omega arith) (omega arith)) (above-gaps (j - suc i) (suc i) (omega arith)))
+      go (no n) (no m) = rw (le-ltb j i (omega arith), le-ltb i j (omega arith)) refl

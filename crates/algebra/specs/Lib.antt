@@ -32,6 +32,7 @@ pub mod SumTable
 pub mod TransposeTable
 pub mod InverseTable
 pub mod SolveTable
+pub mod KernelTable
 pub mod SingularCorner
 -- The theory in statements.
 pub mod SweepTheory

@@ -10,10 +10,10 @@ use Rattle.algebra.specs.Sums.{sumTo}
 use Rattle.algebra.specs.RingLaws.{mul-zero}
 use Rattle.algebra.specs.SumLaws.{sum-zero}
 use Rattle.algebra.specs.Matrix.{Singular, LeastSingular}
-use Rattle.algebra.specs.Generators.{Gens, entryOf, transposeG, pivots}
+use Rattle.algebra.specs.Generators.{Gens, entryOf, transposeG, pivots, kernelG}
 use Rattle.algebra.specs.TransposeTable.{transpose-pivots}
 use Rattle.algebra.specs.InverseTable.{one-to-one}
-use Rattle.algebra.specs.SolveTable.{kernel, kernel-last, kernel-sent}
+use Rattle.algebra.specs.KernelTable.{kernel-last, kernel-sent}
 
 -- the pivots of the first n rows are not zero; and row k has the first zero pivot
 abbrev pub Regular : {K : Ring} → (ℕ → ℕ) → (ℕ → ℕ) → (ℕ → Gens K) → ℕ → Type 0
@@ -31,8 +31,8 @@ module _ {K : Ring} (F : Field K) (r s : ℕ → ℕ) (c : ℕ → Gens K) where
   -- at the first zero pivot the corner sends a column whose last word is 1 to zeros
   pub corner-singular : (k : ℕ) → FirstZero r s c k → Singular K (entryOf r s c) (suc k)
   corner-singular k z = (
-    kernel F r s c k (z .1) (z .0),
-    (k, omega arith, λ e. F .one-ne-zero (sym (kernel-last F r s c k (z .1) (z .0)) ∙ e)),
+    kernelG r s c k,
+    (k, omega arith, λ e. F .one-ne-zero (sym (kernel-last r s c k) ∙ e)),
     kernel-sent F r s c k (z .1) (z .0),
   )
 

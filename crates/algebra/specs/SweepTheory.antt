@@ -7,7 +7,7 @@ use Rattle.algebra.specs.Sums.{act}
 use Rattle.algebra.specs.RingLaws.{mul-one}
 use Rattle.algebra.specs.RingSolver.{quotes, ring₄}
 use Rattle.algebra.specs.Matrix.{columnOf, sends, plusM, timesM, identity, Same, Singular, LeastSingular}
-use Rattle.algebra.specs.Generators.{Gens, entryOf, multipleG, transposeG, sumsG, productsG, pivots, pivotG, rowG, vG, yG, fG, inversesG, solvedG, sentG}
+use Rattle.algebra.specs.Generators.{Gens, entryOf, multipleG, transposeG, sumsG, productsG, pivots, pivotG, rowG, vG, yG, fG, inversesG, solvedG, sentG, kernelG}
 use Rattle.algebra.specs.Kinds.{Agree}
 use Rattle.algebra.specs.Linear.{Mod, Hom, total}
 use Rattle.algebra.specs.Run.{Row, Run}
@@ -15,13 +15,14 @@ use Rattle.algebra.specs.Entry.{send, run, same, entry, entries}
 use Rattle.algebra.specs.Chain as Chain
 use Rattle.algebra.specs.Product.{product, table}
 use Rattle.algebra.specs.Pivot.{Pivot, solve, invert}
-use Rattle.algebra.specs.Agree.{entries-agree}
+use Rattle.algebra.specs.Agree.{entries-agree, corner-agrees}
 use Rattle.algebra.specs.ApplyTable.{swept}
 use Rattle.algebra.specs.ProductTable.{product-matrix}
 use Rattle.algebra.specs.SumTable.{sum-matrix, multiple-matrix}
 use Rattle.algebra.specs.TransposeTable.{transpose-matrix, transpose-pivots}
 use Rattle.algebra.specs.InverseTable.{table-inverse, inverse-table, one-to-one}
 use Rattle.algebra.specs.SolveTable.{solution}
+use Rattle.algebra.specs.KernelTable.{kernel-last, kernel-sent, kernel-only}
 use Rattle.algebra.specs.SingularCorner.{Regular, FirstZero, regular-corner, corners-regular, least-singular, singular-first, transpose-least}
 
 -- I. Over maps between any modules: I and O hold the words of columns, L and U the lower and the upper states. A row is seven maps, a run of N rows is
@@ -85,6 +86,11 @@ module _ {K : Ring} (r s : ℕ → ℕ) (c : ℕ → Gens K) where
   pub only-used-count : (N : ℕ) (c′ : ℕ → Gens K) → Agree N r s c c′ → Same K N (entryOf r s c) (entryOf r s c′)
   only-used-count N c′ = entries-agree N r s c c′
 
+  -- The leading k by k corner goes by the orders of the gaps between its rows alone.
+  pub corner-stands : (k : ℕ) (r′ s′ : ℕ → ℕ) → ((m : ℕ) → 0 < m → m < k → r m ≡ r′ m) → ((m : ℕ) → 0 < m → m < k → s m ≡ s′ m)
+      → Same K k (entryOf r s c) (entryOf r′ s′ c)
+  corner-stands k r′ s′ = corner-agrees k r r′ s s′ c
+
 module _ {K : Ring} (r1 s1 r2 s2 : ℕ → ℕ) (c1 c2 : ℕ → Gens K) (N : ℕ) where
   pub sum-stands : Same K N (entryOf (λ k. r1 k + r2 k) (λ k. s1 k + s2 k) (sumsG r1 s1 r2 s2 c1 c2)) (plusM K (entryOf r1 s1 c1) (entryOf r2 s2 c2))
   sum-stands = sum-matrix r1 s1 r2 s2 c1 c2 N
@@ -126,6 +132,15 @@ module _ {K : Ring} (F : Field K) (r s : ℕ → ℕ) (c : ℕ → Gens K) (N : 
 
   pub regular-corners : Regular r s c N ↔ ((j : ℕ) → j ≤ N → Singular K (entryOf r s c) j → ⊥)
   regular-corners = ((λ ok j h. regular-corner F r s c N j h ok), corners-regular F r s c N)
+
+  -- There the column of the zero pivot has a 1 at row k, the corner sends it to zeros, and it is the only such column.
+  pub kernel-shows : (k : ℕ) → FirstZero r s c k → (kernelG r s c k k ≡ K .one) × ((i : ℕ) → i < suc k → sends K (suc k) (entryOf r s c) (kernelG r s c k) i ≡ K .zero)
+  kernel-shows k z = (kernel-last r s c k, kernel-sent F r s c k (z .1) (z .0))
+
+  pub kernel-unique : (k : ℕ) → FirstZero r s c k → (x : ℕ → K .car) → x k ≡ K .one
+      → ((i : ℕ) → i < suc k → sends K (suc k) (entryOf r s c) x i ≡ K .zero) → (i : ℕ) → i < suc k → x i ≡ kernelG r s c k i
+  kernel-unique k z x e f = kernel-only F r s c k (z .1) (z .0) x (kernelG r s c k) (e ∙ sym (kernel-last r s c k))
+      (λ i h. f i h ∙ sym (kernel-sent F r s c k (z .1) (z .0) i h))
 
   -- The transposed table's least singular corner is the table's.
   pub transpose-singular : (k : ℕ) → LeastSingular K N (entryOf r s c) k ↔ LeastSingular K N (entryOf s r (λ k. transposeG (c k))) k

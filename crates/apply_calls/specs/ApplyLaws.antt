@@ -59,10 +59,9 @@ module _ (P N r s : ℕ) (t x d out out2 : List ℕ) where
   along-is k = let z : 0 + k * 1 ≡ k = omega arith in ap (λ (e : ℕ). res P (getD x e 0)) z
 
   pub applied : out ≡ downList P N (width r s) t x (lowerHalf r) d → out2 ≡ upList P N (width r s) t x (upperHalf r s) out
-      → Accepted (applyReply P N (table r s t) x d) → out2 ≡ applyAfter P N (table r s t) x d
+      → out2 ≡ applyW P N (table r s t) x ++ drop N d
   unfolding applyW
-  applied e f ok = accepted-leaves (applyReply P N (table r s t) x d) (applyW P N (table r s t) x) d out2 N ok (length-tabulate N _)
-      (two-sweeps P N d _ out e _ _ out2 f (λ k h. apply-is P r s t N (along P x 0 1) k h ∙ same k))
+  applied e f = two-sweeps P N d _ out e _ _ out2 f (λ k h. apply-is P r s t N (along P x 0 1) k h ∙ same k)
     where
       same : (k : ℕ) → sends (residues P) N (matrixOf P N (table r s t)) (along P x 0 1) k ≡ sends (residues P) N (matrixOf P N (table r s t)) (column P x) k
       same k = ap (λ (v : ℕ → residues P .car). sends (residues P) N (matrixOf P N (table r s t)) v k) (fun-ext along-is)
@@ -103,3 +102,10 @@ module _ (P N r s : ℕ) (t x : List ℕ) (h₀ : Half) (mp reciprocal w : ℕ) 
 
   pub up-leaves : (d out : List ℕ) → out ≡ upList mp N w t x h d → out ≡ upList P N (width r s) t x h₀ d
   up-leaves d out e = rw (em, ew .0, eh) at e
+
+-- what apply leaves, where its checks have passed
+pub apply-leaves : (P N r s : ℕ) (t x d out : List ℕ) (m : ℕ) → m ≡ P → out ≡ applyW m N (table r s t) x ++ drop N d
+    → Accepted (applyReply P N (table r s t) x d) → out ≡ applyAfter P N (table r s t) x d
+unfolding applyW
+apply-leaves P N r s t x d out m e q ok =
+    accepted-leaves (applyReply P N (table r s t) x d) (applyW P N (table r s t) x) d out N ok (length-tabulate N _) (rw (← e) q)

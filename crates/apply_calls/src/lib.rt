@@ -1,11 +1,36 @@
 // The calls apply and apply transposed: each runs its checks in the refusal table's order; then a sweep down writes the result, and a sweep up adds to it.
-// No contract asks anything of the caller.
+// No contract of a call asks anything of the caller.
 use checks::Reply;
 use field::Modulus;
 ghost use mathlib.Core.Path.{_≡_};
+ghost use mathlib.Core.List.{_++_};
+ghost use Prim.Native.Nat.{_≤_};
+ghost use lib.ListN.{length, drop};
+ghost use Rattle.field.specs.Fit.{Fit};
 ghost use Rattle.table.specs.Words.{table as tab};
+ghost use Rattle.table.specs.Results.{applyW};
 ghost use Rattle.table.specs.Replies.{reply};
 ghost use Rattle.table.specs.Calls.{applyReply, applyAfter, applyTransposedAfter};
+ghost use Rattle.checks.specs.Passed.{Good};
+ghost use Rattle.block.specs.Block.{Within};
+
+// What a good table of n rows sends the column to, to the first n words of the result.
+pub fn apply_words(
+    m: Modulus,
+    n: usize,
+    r: usize,
+    s: usize,
+    table: &[u32],
+    column: &[u32],
+    result: &mut [u32],
+)
+    requires { ⌜ Fit (m .p) (m .reciprocal) × Good (m .p) n (tab r s (now table)) × Within (m .p) (now column) 0 n × (n ≤ length (now result)) ⌝ }
+    ensures { λ _. ⌜ now (result .exit) ≡ applyW (m .p) n (tab r s (now (table .entry))) (now (column .entry)) ++ drop n (now (result .entry)) ⌝ }
+{
+    let w = checks::row_width(r, s);
+    sweeps::sweep_down(m, n, w, table, sweeps::lower(r), column, result);
+    sweeps::sweep_up(m, n, w, table, sweeps::upper(r, s), column, result);
+}
 
 pub fn apply(
     p: u32,
@@ -27,17 +52,7 @@ pub fn apply(
     let size = n as usize;
     let lower = r as usize;
     let upper = s as usize;
-    let w = checks::row_width(lower, upper);
-    sweeps::sweep_down(m, size, w, table, sweeps::lower(lower), column, result);
-    sweeps::sweep_up(
-        m,
-        size,
-        w,
-        table,
-        sweeps::upper(lower, upper),
-        column,
-        result,
-    );
+    apply_words(m, size, lower, upper, table, column, result);
     y
 }
 

@@ -4,7 +4,7 @@ ghost use mathlib.Core.List.{List, []};
 ghost use Prim.Native.Nat.{ℕ, _≤_};
 ghost use Rattle.table.specs.Limits.{standard, upTo};
 ghost use Rattle.table.specs.Words.{table, gap, width};
-ghost use Rattle.table.specs.Replies.{reply, packed, accept, answer, badPrime, badSize, badOrder};
+ghost use Rattle.table.specs.Replies.{reply, packed, accept, answer, badPrime, badSize, badOrder, badPlace};
 ghost use Rattle.table.specs.Calls.{sizeChecks};
 ghost use Rattle.table.specs.Undertakings.{Packed};
 
@@ -71,6 +71,13 @@ pub fn bad_order(r: u32, s: u32) -> bool
     ensures { λ b. ⌜ b ≡ badOrder (standard .order) r s ⌝ }
 {
     if 8 < r { true } else { 8 < s }
+}
+
+// Whether k is outside 1 to n.
+pub fn bad_place(n: u32, k: u32) -> bool
+    ensures { λ b. ⌜ b ≡ badPlace n k ⌝ }
+{
+    bad_size(n, k)
 }
 
 // The first three checks of every call: prime, size and the first table's orders. Sizes may be at most `most`.

@@ -13,19 +13,10 @@ ghost use Rattle.table.specs.Calls.{entryChecks, matrixChecks};
 fn bad_places(n: u32, i: u32, j: u32) -> bool
     ensures { λ b. ⌜ b ≡ (badPlace n i || badPlace n j) ⌝ }
 {
-    if i < 1 {
+    if checks::bad_place(n, i) {
         return true;
     }
-    if n < i {
-        return true;
-    }
-    if j < 1 {
-        return true;
-    }
-    if n < j {
-        return true;
-    }
-    false
+    checks::bad_place(n, j)
 }
 
 pub fn check_entry(p: u32, n: u32, r: u32, s: u32, i: u32, j: u32, t: &[u32]) -> Reply
@@ -52,20 +43,7 @@ pub fn check_entry(p: u32, n: u32, r: u32, s: u32, i: u32, j: u32, t: &[u32]) ->
 pub fn check_matrix(p: u32, n: u32, r: u32, s: u32, t: &[u32], room: usize) -> Reply
     ensures { λ y. ⌜ ((d : List ℕ) → length d ≡ room → reply (y .number) (y .buffer) (y .row) (y .value) ≡ answer (matrixChecks p n (tab r s (now (t .entry))) d) (accept 0)) ⌝ }
 {
-    let y = checks::numbers(p, n, r, s);
-    if y.number != 0 {
-        return y;
-    }
     let size = n as usize;
-    if t.len() < size * checks::row_width(r as usize, s as usize) {
-        return checks::refuse(4, 1, 0);
-    }
-    if room < size * size {
-        return checks::refuse(4, 5, 0);
-    }
-    let row = word_checks::first_bad_row(p, size, r as usize, s as usize, t);
-    if 0 < row {
-        return checks::refuse(5, 1, row as u32);
-    }
-    y
+    let need = size * size;
+    refusals::check_result(p, n, r, s, t, need, room)
 }

@@ -121,6 +121,11 @@ unfolding some
 false-some zero f e = refl
 false-some (suc n) f e = rw (false-some n f (λ j h. e j (omega arith)), e n (omega arith))
 
+pub some-same : (n : ℕ) (f g : ℕ → Bool) → ((j : ℕ) → j < n → f j ≡ g j) → some n f ≡ some n g
+unfolding some
+some-same zero f g e = refl
+some-same (suc n) f g e = ap₂ _||_ (some-same n f g (λ j h. e j (omega arith))) (e n (omega arith))
+
 -- the turns of a loop that searches: k is the next to try
 pub search-start : (n : ℕ) (f : ℕ → Bool) → firstOf n f 0 ≡ firstOf (n - 0) f 0
 search-start n f = let e : n ≡ n - 0 = omega arith in ap (λ (m : ℕ). firstOf m f 0) e

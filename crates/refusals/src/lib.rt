@@ -1,4 +1,5 @@
-// The checks of transpose, multiple and the solving calls, one after the other in the order of the refusal table. `room` is the length of the result.
+// The checks of transpose, multiple, of calls that write a result of given length and of the solving calls, one after the other in the order of the refusal
+// table. `room` is the length of the result.
 use checks::Reply;
 ghost use mathlib.Core.List.{List};
 ghost use mathlib.Core.Path.{_≡_};
@@ -7,7 +8,7 @@ ghost use lib.ListN.{length};
 ghost use Rattle.table.specs.Limits.{upTo};
 ghost use Rattle.table.specs.Words.{table as tab};
 ghost use Rattle.table.specs.Replies.{reply, accept, answer};
-ghost use Rattle.table.specs.Calls.{transposeChecks, multipleChecks, systemChecks, solveEarlier};
+ghost use Rattle.table.specs.Calls.{resultChecks, transposeChecks, multipleChecks, systemChecks, solveEarlier};
 
 pub fn check_transpose(p: u32, n: u32, r: u32, s: u32, t: &[u32], room: usize) -> Reply
     ensures { λ y. ⌜ ((d : List ℕ) → length d ≡ room → reply (y .number) (y .buffer) (y .row) (y .value) ≡ answer (transposeChecks p n (tab r s (now (t .entry))) d) (accept 0)) ⌝ }
@@ -48,6 +49,29 @@ pub fn check_multiple(p: u32, n: u32, r: u32, s: u32, c: u32, t: &[u32], room: u
     }
     if p <= c {
         return checks::refuse(5, 0, 0);
+    }
+    let row = word_checks::first_bad_row(p, size, r as usize, s as usize, t);
+    if 0 < row {
+        return checks::refuse(5, 1, row as u32);
+    }
+    y
+}
+
+// Of a table, and of a result of which `least` words are asked.
+pub fn check_result(p: u32, n: u32, r: u32, s: u32, t: &[u32], least: usize, room: usize) -> Reply
+    ensures { λ y. ⌜ ((d : List ℕ) → length d ≡ room
+        → reply (y .number) (y .buffer) (y .row) (y .value) ≡ answer (resultChecks p n (tab r s (now (t .entry))) least d) (accept 0)) ⌝ }
+{
+    let y = checks::numbers(p, n, r, s);
+    if y.number != 0 {
+        return y;
+    }
+    let size = n as usize;
+    if t.len() < size * checks::row_width(r as usize, s as usize) {
+        return checks::refuse(4, 1, 0);
+    }
+    if room < least {
+        return checks::refuse(4, 5, 0);
     }
     let row = word_checks::first_bad_row(p, size, r as usize, s as usize, t);
     if 0 < row {

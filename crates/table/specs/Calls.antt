@@ -47,12 +47,16 @@ module _ (P N : ℕ) where
         ∷ checkWords 1 A
         ∷ [])
 
-    abbrev pub matrixChecks : (d : List ℕ) → List Check
-    matrixChecks d = sizeChecks standard A (
+    -- the checks of a table and of a result that lends `need` words
+    abbrev pub resultChecks : (need : ℕ) (d : List ℕ) → List Check
+    resultChecks need d = sizeChecks standard A (
         checkShort 1 (A .words) (tableLength N A)
-        ∷ checkShort 5 d (N * N)
+        ∷ checkShort 5 d need
         ∷ checkWords 1 A
         ∷ [])
+
+    abbrev pub matrixChecks : (d : List ℕ) → List Check
+    matrixChecks d = resultChecks (N * N) d
 
     abbrev pub applyChecks : (x d : List ℕ) → List Check
     applyChecks x d = sizeChecks standard A (
@@ -64,11 +68,7 @@ module _ (P N : ℕ) where
         ∷ [])
 
     abbrev pub transposeChecks : (d : List ℕ) → List Check
-    transposeChecks d = sizeChecks standard A (
-        checkShort 1 (A .words) (tableLength N A)
-        ∷ checkShort 5 d (tableLength N A)
-        ∷ checkWords 1 A
-        ∷ [])
+    transposeChecks d = resultChecks (tableLength N A) d
 
     abbrev pub multipleChecks : (c : ℕ) (d : List ℕ) → List Check
     multipleChecks c d = sizeChecks standard A (

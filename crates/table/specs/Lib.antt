@@ -7,6 +7,7 @@ pub mod Calls
 pub mod WordLaws
 pub mod CallLaws
 pub mod SingularRow
+pub mod Corners
 pub mod RowFileLaws
 pub mod FileLaws
 pub mod Groupings

@@ -74,7 +74,7 @@ pub size-is : (limit N : ℕ) → badSize limit N ≡ false → N ≤ limit
 size-is limit N e = leb-true N limit (both-hold (leb 1 N) (leb N limit) e .1)
 
 module _ (P N : ℕ) (A : Table) where
-  fits-sizes : (cs : List Check) (v : Reply) → (N ≤ standard .size → AllFit cs) → (NoFault (sizeChecks P N standard A cs) → Fits v) → Fits (answer (sizeChecks P N standard A cs) v)
+  pub fits-sizes : (cs : List Check) (v : Reply) → (N ≤ standard .size → AllFit cs) → (NoFault (sizeChecks P N standard A cs) → Fits v) → Fits (answer (sizeChecks P N standard A cs) v)
   fits-sizes cs v h g = fits-answer (sizeChecks P N standard A cs) v go g
     where
       go : (n : ℕ) → FirstFault (sizeChecks P N standard A cs) n → Fits (refusalAt (sizeChecks P N standard A cs) n)
@@ -83,13 +83,13 @@ module _ (P N : ℕ) (A : Table) where
       go (suc (suc zero)) z = plain 3 1 0 (omega arith) (omega arith) (omega arith)
       go (suc (suc (suc n))) z = h (size-is (standard .size) N (z .1 1 (omega arith))) .at n
 
-  short-fits : (b : ℕ) → b < 256 → Fits (refuse 4 b 0)
+  pub short-fits : (b : ℕ) → b < 256 → Fits (refuse 4 b 0)
   short-fits b h = plain 4 b 0 (omega arith) h (omega arith)
 
-  words-fit : (b : ℕ) → b < 256 → (B : Table) → N ≤ standard .size → Fits (refuse 5 b (firstBad P N B))
+  pub words-fit : (b : ℕ) → b < 256 → (B : Table) → N ≤ standard .size → Fits (refuse 5 b (firstBad P N B))
   words-fit b h B l = plain 5 b _ (omega arith) h (omega (arith, bad-le P N B))
 
-  column-fits : (x : List ℕ) → N ≤ standard .size → Fits (refuse 5 3 (firstBadPlace P N x))
+  pub column-fits : (x : List ℕ) → N ≤ standard .size → Fits (refuse 5 3 (firstBadPlace P N x))
   column-fits x l = plain 5 3 _ (omega arith) (omega arith) (omega (arith, place-le P N x))
 
   pivot-fits : N ≤ standard .size → Fits (refuse 7 1 (firstZero P N A))

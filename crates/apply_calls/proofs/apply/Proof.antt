@@ -7,57 +7,55 @@ use Prim.Native.Nat.{_≤_}
 use lib.ListN.{length}
 use denote.Ref.{now}
 use Rattle.field.specs.Residue.{prime-pos}
-use Rattle.table.specs.Words.{table, width, firstBadPlace}
+use Rattle.table.specs.Words.{Table, table, firstBadPlace}
 use Rattle.table.specs.Results.{applyW}
 use Rattle.table.specs.Replies.{Reply, reply, Accepted}
 use Rattle.table.specs.Calls.{applyReply}
-use Rattle.sweeps.specs.Halves.{lowerHalf, upperHalf}
 use Rattle.checks.specs.Passed.{Good, apply-passed}
-use Rattle.sweeps.specs.Reads.{lower-down, upper-up, lower-sizes, upper-sizes}
 use Rattle.calls.specs.Finish.{refused-leaves}
-use Rattle.apply_calls.specs.ApplyLaws.{downList, upList, applied, column-reads, swept-length, swept-reads, down-asks, up-asks, down-leaves, up-leaves}
+use Rattle.apply_calls.specs.ApplyLaws.{apply-leaves, column-reads}
 use Rattle.apply_calls.proofs.apply.Statement.{statement}
 use Rattle.apply_calls.proofs.apply.Tie as tie
 
--- the reply of the checks is the call's
-answered : (c : tie.After-check-apply) → let a = c .before .before .before .before .args in
-    reply (c .check-apply .result .number) (c .check-apply .result .buffer) (c .check-apply .result .row) (c .check-apply .result .value) ≡ applyReply (a .p) (a .n) (table (a .r) (a .s) (now (a .table))) (now (a .column)) (now (a .result))
-unfolding applyReply
-answered c = c .check-apply .ensures (now (c .before .before .before .before .args .result)) refl
+module _ (s : tie.Start) where
+  abbrev A : Table
+  A = table (s .args .r) (s .args .s) (now (s .args .table))
 
-refused : (c : tie.Then1) → let a = c .before .before .before .before .before .before .args in applyReply (a .p) (a .n) (table (a .r) (a .s) (now (a .table))) (now (a .column)) (now (a .result)) .number ≢ 0
+  abbrev the-reply : Reply
+  the-reply = applyReply (s .args .p) (s .args .n) A (now (s .args .column)) (now (s .args .result))
+
+-- the start, from after the checks
+abbrev start : tie.After-check-apply → tie.Start
+start c = c .before .before .before .before
+
+-- the reply of the checks is the call's
+answered : (c : tie.After-check-apply) → let y = c .check-apply .result in reply (y .number) (y .buffer) (y .row) (y .value) ≡ the-reply (start c)
+unfolding applyReply
+answered c = c .check-apply .ensures (now (start c .args .result)) refl
+
+refused : (c : tie.Then1) → the-reply (start (c .before .before)) .number ≢ 0
 refused c z = c .if1 .taken (ap (λ (y : Reply). y .number) (answered (c .before .before)) ∙ z)
 
-accepted : (c : tie.Else1) → let a = c .before .before .before .before .before .before .args in Accepted (applyReply (a .p) (a .n) (table (a .r) (a .s) (now (a .table))) (now (a .column)) (now (a .result)))
+accepted : (c : tie.Else1) → Accepted (the-reply (start (c .before .before)))
 accepted c = ap (λ (y : Reply). y .number) (sym (answered (c .before .before))) ∙ c .if1 .left
 
 -- what the checks have shown
-passed : (c : tie.Else1) → let a = c .before .before .before .before .before .before .args in
-    Good (a .p) (a .n) (table (a .r) (a .s) (now (a .table))) × (a .n ≤ length (now (a .column))) × (a .n ≤ length (now (a .result))) × (firstBadPlace (a .p) (a .n) (now (a .column)) ≡ 0)
-passed c = let a = c .before .before .before .before .before .before .args in apply-passed (a .p) (a .n) (table (a .r) (a .s) (now (a .table))) (now (a .column)) (now (a .result)) (accepted c)
-
--- what the two sweeps leave
-down-swept : (c : tie.After-sweep-down) → let a = c .before .before .before .before .before .before .before .before .before .before .before .args in c .sweep-down .last .1 .1 .1 .1 .1 .1 .0 ≡ downList (a .p) (a .n) (width (a .r) (a .s)) (now (a .table)) (now (a .column)) (lowerHalf (a .r)) (now (a .result))
-down-swept c = let a = c .before .before .before .before .before .before .before .before .before .before .before .args in
-    down-leaves (a .p) (a .n) (a .r) (a .s) (now (a .table)) (now (a .column)) (lowerHalf (a .r)) (c .before .before .before .before .new .result .p) (c .before .before .before .before .new .result .reciprocal) (c .before .before .before .row-width .result) (c .before .before .lower .result) (c .before .before .before .before .new .ensures .0) (c .before .before .before .row-width .ensures) (c .before .before .lower .ensures) (now (a .result)) (c .sweep-down .last .1 .1 .1 .1 .1 .1 .0) (c .sweep-down .ensures)
-
-up-swept : (c : tie.After-sweep-up) → let a = c .before .before .before .before .before .before .before .before .before .before .before .before .before .before .before .before .args in c .sweep-up .last .1 .1 .1 .1 .1 .1 .0 ≡ upList (a .p) (a .n) (width (a .r) (a .s)) (now (a .table)) (now (a .column)) (upperHalf (a .r) (a .s)) (c .before .before .before .before .before .sweep-down .last .1 .1 .1 .1 .1 .1 .0)
-up-swept c = let a = c .before .before .before .before .before .before .before .before .before .before .before .before .before .before .before .before .args in
-    up-leaves (a .p) (a .n) (a .r) (a .s) (now (a .table)) (now (a .column)) (upperHalf (a .r) (a .s)) (c .before .before .before .before .before .before .before .before .before .new .result .p) (c .before .before .before .before .before .before .before .before .before .new .result .reciprocal) (c .before .before .before .before .before .before .before .before .row-width .result) (c .before .before .upper .result) (c .before .before .before .before .before .before .before .before .before .new .ensures .0) (c .before .before .before .before .before .before .before .before .row-width .ensures) (c .before .before .upper .ensures) (c .before .before .before .before .before .sweep-down .last .1 .1 .1 .1 .1 .1 .0) (c .sweep-up .last .1 .1 .1 .1 .1 .1 .0) (c .sweep-up .ensures)
+passed : (c : tie.Else1) → let s = start (c .before .before) in let a = s .args in
+    Good (a .p) (a .n) (A s) × (a .n ≤ length (now (a .column))) × (a .n ≤ length (now (a .result))) × (firstBadPlace (a .p) (a .n) (now (a .column)) ≡ 0)
+passed c = let s = start (c .before .before) in let a = s .args in apply-passed (a .p) (a .n) (A s) (now (a .column)) (now (a .result)) (accepted c)
 
 pub apply-spec : {M : Type 1} → statement M
 apply-spec =
     tie.close
     (tie.spec
     (λ c κs. search needs)
-    (λ c. let a = c .before .before .before .before .before .before .args in (answered (c .before .before), refused-leaves (applyReply (a .p) (a .n) (table (a .r) (a .s) (now (a .table))) (now (a .column)) (now (a .result))) (applyW (a .p) (a .n) (table (a .r) (a .s) (now (a .table))) (now (a .column))) (now (a .result)) (refused c)))
+    (λ c. let s = start (c .before .before) in let a = s .args in
+    (answered (c .before .before), refused-leaves (the-reply s) (applyW (a .p) (a .n) (A s) (now (a .column))) (now (a .result)) (refused c)))
     (λ c κs. let g = passed c .0 in (prime-pos _ (g .prime), omega (arith, g .limit)))
-    (λ c κs. let g = passed (c .before) .0 in (g .lower, g .upper))
-    (λ c κs. passed (c .before .before) .0 .lower)
-    (λ c κs. let a = c .before .before .before .before .before .before .before .before .before .before .args in let q = passed (c .before .before .before .before) in
-    down-asks (a .p) (a .n) (a .r) (a .s) (now (a .table)) (now (a .column)) (lowerHalf (a .r)) (c .before .before .before .new .result .p) (c .before .before .before .new .result .reciprocal) (c .before .before .row-width .result) (c .before .lower .result) (c .before .before .before .new .ensures .0) (c .before .before .row-width .ensures) (c .before .lower .ensures) (q .0) (c .before .before .before .new .ensures .1) (lower-sizes _ (q .0 .lower)) (column-reads _ _ _ (q .1) (q .3)) (now (a .result)) (q .2) (lower-down _ _ _ _ _ (q .0)))
-    (λ c κs. let g = passed (c .before .before .before .before .before .before .before) .0 in (g .lower, g .upper))
-    (λ c κs. let a = c .before .before .before .before .before .before .before .before .before .before .before .before .before .before .before .args in let q = passed (c .before .before .before .before .before .before .before .before .before) in
-    up-asks (a .p) (a .n) (a .r) (a .s) (now (a .table)) (now (a .column)) (upperHalf (a .r) (a .s)) (c .before .before .before .before .before .before .before .before .new .result .p) (c .before .before .before .before .before .before .before .before .new .result .reciprocal) (c .before .before .before .before .before .before .before .row-width .result) (c .before .upper .result) (c .before .before .before .before .before .before .before .before .new .ensures .0) (c .before .before .before .before .before .before .before .row-width .ensures) (c .before .upper .ensures) (q .0) (c .before .before .before .before .before .before .before .before .new .ensures .1) (upper-sizes _ _ (q .0 .lower) (q .0 .upper)) (column-reads _ _ _ (q .1) (q .3)) (c .before .before .before .before .sweep-down .last .1 .1 .1 .1 .1 .1 .0) (swept-reads (a .p) (a .n) (now (a .result)) _ (c .before .before .before .before .sweep-down .last .1 .1 .1 .1 .1 .1 .0) (down-swept (c .before .before .before .before)) (prime-pos _ (q .0 .prime)) (q .2)) (upper-up _ _ _ _ _ (q .0)))
-    (λ c. let a = c .before .before .before .before .before .before .before .before .before .before .before .before .before .before .before .before .before .before .args in let q = passed (c .before .before .before .before .before .before .before .before .before .before .before .before) in let l = swept-length (a .p) (a .n) (now (a .result)) _ (c .before .before .before .before .before .before .before .sweep-down .last .1 .1 .1 .1 .1 .1 .0) (down-swept (c .before .before .before .before .before .before .before)) (q .2) in swept-length (a .p) (a .n) (c .before .before .before .before .before .before .before .sweep-down .last .1 .1 .1 .1 .1 .1 .0) _ (c .before .before .sweep-up .last .1 .1 .1 .1 .1 .1 .0) (up-swept (c .before .before)) (omega (arith, q .2)) ∙ l)
-    (λ c. let a = c .before .before .before .before .before .before .before .before .before .before .before .before .before .before .before .before .before .before .args in (answered (c .before .before .before .before .before .before .before .before .before .before .before .before .before .before), applied (a .p) (a .n) (a .r) (a .s) (now (a .table)) (now (a .column)) (now (a .result)) (c .before .before .before .before .before .before .before .sweep-down .last .1 .1 .1 .1 .1 .1 .0) (c .before .before .sweep-up .last .1 .1 .1 .1 .1 .1 .0) (down-swept (c .before .before .before .before .before .before .before)) (up-swept (c .before .before)) (accepted (c .before .before .before .before .before .before .before .before .before .before .before .before)))))
+    (λ c κs. let m = c .before .new .ensures in let z = passed (c .before .before) in (m .1, rw (m .0) (z .0), rw (m .0) (column-reads _ _ _ (z .1) (z .3)), z .2))
+    (λ c. search needs)
+    (λ c. let s = start (c .before .before .before .before .before .before .before) in let a = s .args in (
+      answered (c .before .before .before .before .before .before .before),
+      apply-leaves (a .p) (a .n) (a .r) (a .s) (now (a .table)) (now (a .column)) (now (a .result)) _ _ (c .before .before .before .before .new .ensures .0) (c .before .before .apply-words .ensures)
+          (accepted (c .before .before .before .before .before)),
+    )))
