@@ -69,7 +69,7 @@ module _ (P N : ℕ) (A : Table) (k : ℕ) (x : List ℕ) where
     column-below = (λ e. place-below P N x (none-row (firstBadPlace P N x) .0 e), λ h. none-row (firstBadPlace P N x) .1 (place-good P N x h));
   }
 
-  clear-good : NoFault (showsChecks P N A k x) → GoodQuestion P N A k x
+  pub clear-good : NoFault (showsChecks P N A k x) → GoodQuestion P N A k x
   clear-good z =
       let c = causes in
       let p = c .prime .0 (z 0) in

@@ -155,7 +155,7 @@ module _ (P N : ℕ) (A : Table) where
       zero-pivot = some-row;
     }
 
-    earlier-good : NoFault earlier → GoodLoan P N A d
+    pub earlier-good : NoFault earlier → GoodLoan P N A d
     earlier-good z = let g = table-good earlier z refl refl refl refl 5 refl in (g .0, g .1, causes .result-long .0 (z 4))
 
     good-earlier : GoodLoan P N A d → NoFault earlier

@@ -3,6 +3,7 @@ ghost use mathlib.Core.Path.{_≡_};
 ghost use Rattle.table.specs.Words.{table as tab};
 ghost use Rattle.table.specs.Replies.{packed};
 ghost use Rattle.dense.specs.DenseCall.{denseReply, denseAfter, squareAfter};
+ghost use Rattle.kernels.specs.KernelCall.{kernelReply, kernelAfter, showsReply};
 ghost use Rattle.fraction_calls.specs.FractionCall.{fractionsReply, numeratorsAfter, denominatorsAfter};
 ghost use Rattle.table.specs.Calls.{entryReply, matrixReply, matrixAfter, applyReply, applyAfter, applyTransposedAfter, transposeReply, transposeAfter, multipleReply, multipleAfter, sumReply, sumAfter, productReply, productAfter, solveReply, solveAfter, workAfter, inverseReply, inverseAfter, readReply, readAfter, writeReply, writeAfter};
 
@@ -184,6 +185,36 @@ pub extern "C" fn residues_inverse(
     ensures { λ v. ⌜ now (result .exit) ≡ inverseAfter p n (tab r s (now (table .entry))) (now (result .entry)) ⌝ }
 {
     checks::pack(solutions::inverse(p, n, r, s, table, result))
+}
+
+#[no_mangle]
+pub extern "C" fn residues_kernel(
+    p: u32,
+    n: u32,
+    r: u32,
+    s: u32,
+    table: &[u32],
+    result: &mut [u32],
+) -> u64
+    ensures { λ v. ⌜ v ≡ packed (kernelReply p n (tab r s (now (table .entry))) (now (result .entry))) ⌝ }
+    ensures { λ v. ⌜ now (result .exit) ≡ kernelAfter p n (tab r s (now (table .entry))) (now (result .entry)) ⌝ }
+{
+    checks::pack(kernel_calls::kernel(p, n, r, s, table, result))
+}
+
+#[no_mangle]
+pub extern "C" fn residues_kernel_check(
+    p: u32,
+    n: u32,
+    r: u32,
+    s: u32,
+    k: u32,
+    table: &[u32],
+    column: &[u32],
+) -> u64
+    ensures { λ v. ⌜ v ≡ packed (showsReply p n (tab r s (now (table .entry))) k (now (column .entry))) ⌝ }
+{
+    checks::pack(kernel_calls::kernel_check(p, n, r, s, k, table, column))
 }
 
 #[no_mangle]
