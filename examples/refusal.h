@@ -19,11 +19,12 @@ static inline int accepted(const char *call, uint64_t reply)
         "a word is not below its prime",
         "the orders add up to more than 8",
         "a leading corner is singular",
-        "i or j is not 1 to n",
+        "i or j, or k, is not 1 to n",
         "the file is under 20 bytes, or of the wrong length",
         "the file's chain is wrong after this row",
         "p1 and p2 are the same prime",
         "two residues have no fraction within the bound",
+        "no leading corner is singular",
     };
     static const char *const buffers[] = {
         "no buffer", "the table", "the second table", "the column", "work or the square", "the result", "the file",

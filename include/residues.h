@@ -40,11 +40,12 @@ enum {
     RESIDUES_BAD_WORD = 5,       /* a word is not below its prime; beside it the lowest such buffer and its first such row; 0, 0: c */
     RESIDUES_BAD_ORDER_SUM = 6,  /* orders that add up to more than 8 */
     RESIDUES_ZERO_PIVOT = 7,     /* a leading corner is singular; beside it 1 and the least such row; 1, 0: the whole matrix is (solve_dense) */
-    RESIDUES_BAD_PLACE = 8,      /* i or j is not 1 to n */
+    RESIDUES_BAD_PLACE = 8,      /* i or j, or k, is not 1 to n */
     RESIDUES_BAD_LENGTH = 9,     /* a file under 20 bytes, or of the wrong length; beside it 6 */
     RESIDUES_BAD_CHAIN = 10,     /* a file's chain is wrong; beside it 6 and the rows read so far */
     RESIDUES_EQUAL_PRIMES = 11,  /* p1 and p2 are the same prime */
-    RESIDUES_NO_FRACTION = 12    /* two residues have no fraction within the bound; beside it 0 and the first such place */
+    RESIDUES_NO_FRACTION = 12,   /* two residues have no fraction within the bound; beside it 0 and the first such place */
+    RESIDUES_REGULAR = 13        /* no leading corner is singular (kernel) */
 };
 
 /* The buffers that a reply names. */
@@ -136,7 +137,7 @@ uint64_t residues_product(uint32_t p, uint32_t n, uint32_t r1, uint32_t s1, uint
 /* The column that the table sends to the given column, n words, to the result. Reads the table and the column. Work lends n * s
  * words, so it may be NULL and empty where s is 0; it is not read, and holds v of rows 1 to n - 1 afterwards, then s zeros.
  * Refuses 1, 2, 3, 4, 5, 7: 7 where the leading k by k corner is singular for some k, beside it 1 and the least such k. Where that k is
- * below n the matrix may still have an inverse: for n to 256 ask residues_solve_dense then. */
+ * below n the matrix may still have an inverse: for n to 256 ask residues_solve_dense then. residues_kernel shows the dependence. */
 uint64_t residues_solve(uint32_t p, uint32_t n, uint32_t r, uint32_t s,
                         const uint32_t *table, size_t table_len, const uint32_t *column, size_t column_len,
                         uint32_t *work, size_t work_len, uint32_t *result, size_t result_len);
@@ -155,6 +156,21 @@ uint64_t residues_solve_dense(uint32_t p, uint32_t n, uint32_t r, uint32_t s,
  * written. */
 uint64_t residues_inverse(uint32_t p, uint32_t n, uint32_t r, uint32_t s,
                           const uint32_t *table, size_t table_len, uint32_t *result, size_t result_len);
+
+/* How the columns of a singular corner depend on each other. With k the least for which the leading k by k corner is singular, which is
+ * the row beside 7 of residues_solve and residues_inverse: k residues, the last of them 1, which that corner sends to zeros, to the
+ * result, and k as the reply's value. There is only one such column of residues. In the first k rows, column k of the matrix is minus
+ * the sum of the columns before it, each times its residue. The result lends n words, and those after the k-th keep their contents:
+ * clear it first, all n words, since residues_kernel_check looks at all n. Reads the table. Refuses 1, 2, 3, 4, 5, 13: 13 where no
+ * leading corner is singular, beside it 0 and 0. */
+uint64_t residues_kernel(uint32_t p, uint32_t n, uint32_t r, uint32_t s,
+                         const uint32_t *table, size_t table_len, uint32_t *result, size_t result_len);
+
+/* Whether word k of the column, from 1, is 1 and the leading k by k corner sends the first k words to zeros: the reply's value is 1 where
+ * both hold, else 0. For any k from 1 to n and any column, whoever made it. Reads the table and the column, all n words of it, and writes
+ * nothing. Refuses 1, 2, 3, 8, 4, 5: 5 for words after the k-th too. */
+uint64_t residues_kernel_check(uint32_t p, uint32_t n, uint32_t r, uint32_t s, uint32_t k,
+                               const uint32_t *table, size_t table_len, const uint32_t *column, size_t column_len);
 
 /* The table of a row file, n * w words of the file's own n, r and s, to the result, its idle words 0; the reply's value is p.
  * Reads the file, whose length is residues_file_bytes of its own n, r and s exactly. Refuses 9 (under 20 bytes), 1, 2, 3, 9

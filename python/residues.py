@@ -37,18 +37,19 @@ CAUSES = (
     ("BAD_WORD", "a word is not below its prime"),
     ("BAD_ORDER_SUM", "the orders add up to more than 8"),
     ("ZERO_PIVOT", "a leading corner is singular"),
-    ("BAD_PLACE", "i or j is not 1 to n"),
+    ("BAD_PLACE", "i or j, or k, is not 1 to n"),
     ("BAD_LENGTH", "the file is under 20 bytes, or of the wrong length"),
     ("BAD_CHAIN", "the file's chain is wrong after this row"),
     ("EQUAL_PRIMES", "p1 and p2 are the same prime"),
     ("NO_FRACTION", "two residues have no fraction within the bound"),
+    ("REGULAR", "no leading corner is singular"),
 )
 WHOLE_SINGULAR = "the whole matrix is singular"  # what 7 means beside row 0
 BUFFERS = ("no buffer", "the table", "the second table", "the column", "work or the square", "the result", "the file")
 FRACTION_BUFFERS = {0: "no buffer", 1: "the first residues", 2: "the second residues", 4: "the numerators", 5: "the denominators"}
 
 _CALLS = ("entry", "matrix", "apply", "apply_transpose", "transpose", "multiple", "sum", "product", "solve", "solve_dense",
-          "inverse", "read_file", "write_file", "fractions")
+          "inverse", "kernel", "kernel_check", "read_file", "write_file", "fractions")
 
 Table = collections.namedtuple("Table", "p n r s words")
 Head = collections.namedtuple("Head", "p n r s first")
@@ -265,6 +266,27 @@ def inverse(p, n, r, s, table):
     """The table of the inverse matrix, of the same orders."""
     _, n, r, s = numbers = _numbers(p=p, n=n, r=r, s=s)
     return _table_call("inverse", numbers, (n, r, s), table=table)
+
+
+def kernel(p, n, r, s, table):
+    """The k residues, the last of them 1, that the leading k by k corner sends to zeros, where k is the row that refused 7 of solve and
+    inverse names; k is the length of what comes. In the first k rows, column k is minus the sum of the columns before it, each times its
+    residue. There is only one such column of residues. Refused 13 says that no leading corner is singular."""
+    numbers = _numbers(p=p, n=n, r=r, s=s)
+    result = _blank(min(numbers[1], LARGEST_SIZE))
+    k = _run("kernel", numbers, _words("table", table), result)
+    return result[:k]
+
+
+def kernel_check(p, n, r, s, k, table, column):
+    """Whether word k of the column, from 1, is 1 and the leading k by k corner sends the first k words to zeros, for any k from 1 to n
+    and any column. All n words are looked at, and one that is not below p is refused with 5. A column of k words alone, such as kernel
+    returns, is taken as if zeros followed it to the n-th word."""
+    _, n, _, _, k = numbers = _numbers(p=p, n=n, r=r, s=s, k=k)
+    lent, column = _lent(table=table, column=column)
+    if len(column) == k:
+        column = _words("column", [*column, *[0] * (min(n, LARGEST_SIZE) - k)])
+    return _run("kernel_check", numbers, lent, column) == 1
 
 
 def read_file(file):
