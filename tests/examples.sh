@@ -16,12 +16,13 @@ owe_printed() {
 # Compiles with the words given and runs.
 run_c_examples() {
     local program
-    for program in apply spline ladder identities files; do
+    for program in apply spline ladder beam identities files; do
         "${c99[@]}" "$@" "$examples/$program.c" "$lib/libresidues.a" -o "$build/$program"
     done
     owe_printed apply 0 "${within[@]}" "$build/apply"
     owe_printed spline 0 "${within[@]}" "$build/spline"
     owe_printed ladder 0 "${within[@]}" "$build/ladder"
+    owe_printed beam 0 "${within[@]}" "$build/beam"
     owe_printed identities 0 "${within[@]}" "$build/identities"
     files=("${within[@]}" "$build/files" "$build/transposed" "$build/inverse")
     owe_printed files 0 "${files[@]}" "$examples/M.rows"
@@ -69,5 +70,6 @@ run_python() {
     owe_printed solve-no-file 1 "${within[@]}" python3 "$examples/solve.py" no-such-file 4
     owe_printed exact 0 "${within[@]}" python3 "$examples/exact.py"
     owe_printed slopes 0 "${within[@]}" python3 "$examples/slopes.py"
+    owe_printed weighings 0 "${within[@]}" python3 "$examples/weighings.py"
     "${within[@]}" python3 "$here/python/test_residues.py"
 }
