@@ -9,8 +9,8 @@
 #define WORDS (N * ROW)
 #define P 2147483647u
 
-/* Two beams lie end to end, nodes 1 to 7 and 8 to 10. Each resists bending at its inner nodes, but for a hinge at node 4, and each support
- * resists that its node moves. With x(i) for how far node i moves, the bridge's energy is the sum of
+/* Two beams lie end to end, nodes 1 to 7 and 8 to 10. Each resists bending at its inner nodes, but for a hinge at node 4, and each
+ * support resists that its node moves. With x(i) for how far node i moves, twice the bridge's energy is the sum of
  *     (x(i-1) - 2 x(i) + x(i+1)) squared   for each node i that resists bending
  *     x(i) squared                         for each supported node i
  * and the matrix is that of this sum: column j has the forces that it takes to move node j alone by 1. */
@@ -27,8 +27,8 @@ static int32_t near_zero(uint32_t word)
     return word > P / 2 ? -(int32_t)(P - word) : (int32_t)word;
 }
 
-/* Entries further than 2 from the diagonal are 0. In each row p has those 1 and 2 before the diagonal and g those 1 and 2 after it; q and h
- * are 1 0, and a and b move the 1 one place down, then out. */
+/* Entries further than 2 from the diagonal are 0. In each row p has those 1 and 2 before the diagonal and g those 1 and 2 after it; q
+ * and h are 1 0, and a and b move the 1 one place down, then out. */
 static void put_table(const int *supported, uint32_t *table)
 {
     static const int bend[3] = {1, -2, 1};
@@ -108,7 +108,7 @@ static int is_free(const int *supported, const uint32_t *x)
 
 int main(void)
 {
-    int supported[N] = {0, 1, 0, 0, 0, 1, 0, 1, 0, 1};
+    int supported[N] = {0, 1, 0, 0, 0, 1, 0, 1, 0, 1}; /* nodes 2 and 6 of the first beam, both ends of the second */
     uint32_t table[WORDS], x[N];
     put_table(supported, table);
     if (holds(table)) {
