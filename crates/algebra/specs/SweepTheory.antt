@@ -7,7 +7,8 @@ use Rattle.algebra.specs.Sums.{act}
 use Rattle.algebra.specs.RingLaws.{mul-one}
 use Rattle.algebra.specs.RingSolver.{quotes, ring₄}
 use Rattle.algebra.specs.Matrix.{columnOf, sends, plusM, timesM, identity, Same, Singular, LeastSingular}
-use Rattle.algebra.specs.Generators.{Gens, entryOf, multipleG, transposeG, sumsG, productsG, pivots, pivotG, rowG, vG, yG, fG, inversesG, solvedG, sentG, kernelG}
+use Rattle.algebra.specs.Generators.{Gens, entryOf, multipleG, transposeG, sumsG, productsG, pivots, pivotG, rowG, vG, yG, fG}
+use Rattle.algebra.specs.Generators.{inversesG, solvedG, kernelG, sentG}
 use Rattle.algebra.specs.Kinds.{Agree}
 use Rattle.algebra.specs.Linear.{Mod, Hom, total}
 use Rattle.algebra.specs.Run.{Row, Run}
@@ -134,7 +135,8 @@ module _ {K : Ring} (F : Field K) (r s : ℕ → ℕ) (c : ℕ → Gens K) (N : 
   regular-corners = ((λ ok j h. regular-corner F r s c N j h ok), corners-regular F r s c N)
 
   -- There the column of the zero pivot has a 1 at row k, the corner sends it to zeros, and it is the only such column.
-  pub kernel-shows : (k : ℕ) → FirstZero r s c k → (kernelG r s c k k ≡ K .one) × ((i : ℕ) → i < suc k → sends K (suc k) (entryOf r s c) (kernelG r s c k) i ≡ K .zero)
+  pub kernel-shows : (k : ℕ) → FirstZero r s c k
+      → (kernelG r s c k k ≡ K .one) × ((i : ℕ) → i < suc k → sends K (suc k) (entryOf r s c) (kernelG r s c k) i ≡ K .zero)
   kernel-shows k z = (kernel-last r s c k, kernel-sent F r s c k (z .1) (z .0))
 
   pub kernel-unique : (k : ℕ) → FirstZero r s c k → (x : ℕ → K .car) → x k ≡ K .one

@@ -261,7 +261,8 @@ module _ (P N : ℕ) (A : Table) (d : List ℕ) (k : ℕ) (e : kernelReply P N A
       decides b q = answer-append (take 7 cs) (drop 7 cs) value ∙ open-checks (take 7 cs) (answer (drop 7 cs) value) others-clear
           ∙ ap (λ (b : Bool). pick b (refuse 5 3 (firstBadPlace P N left)) value) q
 
-      go : (b : Bool) → ltb 0 (firstBadPlace P N left) ≡ b → Accepted (showsReply P N A k left) ⊎ (showsReply P N A k left ≡ refuse 5 3 (firstBadPlace P N left))
+      go : (b : Bool) → ltb 0 (firstBadPlace P N left) ≡ b
+          → Accepted (showsReply P N A k left) ⊎ (showsReply P N A k left ≡ refuse 5 3 (firstBadPlace P N left))
       go true q = inr (decides true q)
       go false q = inl (number-is (decides false q))
 

@@ -52,10 +52,18 @@ apply-spec =
     (λ c. let s = start (c .before .before) in let a = s .args in
     (answered (c .before .before), refused-leaves (the-reply s) (applyW (a .p) (a .n) (A s) (now (a .column))) (now (a .result)) (refused c)))
     (λ c κs. let g = passed c .0 in (prime-pos _ (g .prime), omega (arith, g .limit)))
-    (λ c κs. let m = c .before .new .ensures in let z = passed (c .before .before) in (m .1, rw (m .0) (z .0), rw (m .0) (column-reads _ _ _ (z .1) (z .3)), z .2))
+    (λ c κs.
+    let m = c .before .new .ensures in
+    let z = passed (c .before .before) in
+    (m .1, rw (m .0) (z .0), rw (m .0) (column-reads _ _ _ (z .1) (z .3)), z .2))
     (λ c. search needs)
-    (λ c. let s = start (c .before .before .before .before .before .before .before) in let a = s .args in (
-      answered (c .before .before .before .before .before .before .before),
-      apply-leaves (a .p) (a .n) (a .r) (a .s) (now (a .table)) (now (a .column)) (now (a .result)) _ _ (c .before .before .before .before .new .ensures .0) (c .before .before .apply-words .ensures)
-          (accepted (c .before .before .before .before .before)),
+    (λ c.
+    let words = c .before .before in
+    let m = words .before .before in
+    let ok = m .before in
+    let checks = ok .before .before in
+    let a = start checks .args in (
+      answered checks,
+      apply-leaves (a .p) (a .n) (a .r) (a .s) (now (a .table)) (now (a .column)) (now (a .result)) _ _
+          (m .new .ensures .0) (words .apply-words .ensures) (accepted ok),
     )))

@@ -37,16 +37,26 @@ up-swept c = let d = down-of c in let a = start d .args in let w = d .before .be
     (w .row-width .result) (h .upper .result) refl (w .row-width .ensures) (h .upper .ensures) (down d) (up c) (c .sweep-up .ensures)
 
 sweep-down-requires : tie.Need-sweep-down-requires
-sweep-down-requires c κs = let w = c .before .before in let h = c .before in let a = c .before .before .before .before .before .before .args in let p = c .before .before .before .before .before .before .pre in
+sweep-down-requires c κs =
+    let h = c .before in
+    let w = h .before in
+    let s = w .before .before .before .before in
+    let a = s .args in
+    let p = s .pre in
     down-asks (a .m .p) (a .n) (a .r) (a .s) (now (a .table)) (now (a .column)) (lowerHalf (a .r)) (a .m .p) (a .m .reciprocal)
     (w .row-width .result) (h .lower .result) refl (w .row-width .ensures) (h .lower .ensures) (p .1) (p .0) (lower-sizes _ (p .1 .lower)) (p .2)
     (now (a .result)) (p .3) (lower-down _ _ _ _ _ (p .1))
 
 sweep-up-requires : tie.Need-sweep-up-requires
-sweep-up-requires c κs = let d = c .before .before .before .before in let w = c .before .before .before .before .before .before .before in let h = c .before in let a = c .before .before .before .before .before .before .before .before .before .before .before .args in let p = c .before .before .before .before .before .before .before .before .before .before .before .pre in
+sweep-up-requires c κs =
+    let h = c .before in
+    let d = h .before .before .before in
+    let w = d .before .before .before in
+    let a = start d .args in
+    let p = start d .pre in
     up-asks (a .m .p) (a .n) (a .r) (a .s) (now (a .table)) (now (a .column)) (upperHalf (a .r) (a .s)) (a .m .p) (a .m .reciprocal)
-    (w .row-width .result) (h .upper .result) refl (w .row-width .ensures) (h .upper .ensures) (p .1) (p .0) (upper-sizes _ _ (p .1 .lower) (p .1 .upper)) (p .2)
-    (down d) (swept-reads (a .m .p) (a .n) (now (a .result)) _ (down d) (down-swept d) (p .0 .pos) (p .3)) (upper-up _ _ _ _ _ (p .1))
+    (w .row-width .result) (h .upper .result) refl (w .row-width .ensures) (h .upper .ensures)
+    (p .1) (p .0) (upper-sizes _ _ (p .1 .lower) (p .1 .upper)) (p .2) (down d) (swept-reads (a .m .p) (a .n) (now (a .result)) _ (down d) (down-swept d) (p .0 .pos) (p .3)) (upper-up _ _ _ _ _ (p .1))
 
 returns : tie.Need-returns
 returns c = let u = c .before .before in let d = down-of u in let a = start d .args in

@@ -33,7 +33,11 @@ kernel-spec =
     (λ c κs. search needs)
     (λ c. stopped (checked (c .before .before)) (c .if1 .taken))
     (λ c κs. fits (checked (c .before .before)) (c .if1 .left))
-    (λ c κs. let k = checked (c .before .before .before .before) in let ok = c .before .before .if1 .left in (c .before .new .ensures .1, ready k ok (c .before .new .ensures .0), loan k ok .2))
+    (λ c κs.
+    let m = c .before .new .ensures in
+    let k = checked (c .before .before .before .before) in
+    let ok = c .before .before .if1 .left in
+    (m .1, ready k ok (m .0), loan k ok .2))
     (λ c κs. search needs)
     (λ c. search needs)
     (λ c. let k = c .before .before .before .before in

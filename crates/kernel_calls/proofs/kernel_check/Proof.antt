@@ -35,12 +35,18 @@ kernel-check-spec =
     (λ c. search needs)
     (λ c. let z = question (asked (c .before .before .before)) (c .before .if1 .left) in omega (arith, z .2 .0, z .3, z .4))
     (λ c κs. search needs)
-    (λ c. other-word (asked (c .before .before .before .before .before)) (c .before .before .before .if1 .left) (c .before .if2 .taken) (reply-is (c .accept .ensures)))
+    (λ c. let ok = c .before .before .before in
+    other-word (asked (ok .before .before)) (ok .if1 .left) (c .before .if2 .taken) (reply-is (c .accept .ensures)))
     (λ c κs. fits (asked (c .before .before .before .before)) (c .before .before .if1 .left))
-    (λ c κs. let q = asked (c .before .before .before .before .before) in let ok = c .before .before .before .if1 .left in let m = c .new .ensures in (m .1, corner-good q ok (m .0), corner-reads q ok (m .0)))
+    (λ c κs.
+    let m = c .new .ensures in
+    let ok = c .before .before .before in
+    let q = asked (ok .before .before) in
+    (m .1, corner-good q (ok .if1 .left) (m .0), corner-reads q (ok .if1 .left) (m .0)))
     (λ c κs. search needs)
     (λ c. let s = c .before .before in
     not-zeros (asked (asking s)) (passed s) (modulus-is s) (s .sends-some .ensures) (c .before .if3 .taken) (reply-is (c .accept2 .ensures)))
     (λ c κs. search needs)
     (λ c. let s = c .before .before in
-    zeros (asked (asking s)) (passed s) (modulus-is s) (s .sends-some .ensures) (c .before .before .before .before .if2 .left) (c .before .if3 .left) (reply-is (c .accept3 .ensures))))
+    zeros (asked (asking s)) (passed s) (modulus-is s) (s .sends-some .ensures) (s .before .before .if2 .left) (c .before .if3 .left)
+    (reply-is (c .accept3 .ensures))))

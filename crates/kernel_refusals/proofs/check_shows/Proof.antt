@@ -86,7 +86,9 @@ pass-5 c =
     next _ _ _ (row-none _ (firstBad (s .args .p) (s .args .n) (A s)) (c .before .first-bad-row .ensures .0) (c .if5 .left)) refl ∙ pass-4 (c .before .before)
 
 returns-2 : tie.Need-returns-2
-returns-2 c = here _ _ (sym (c .before .before .bad-place .ensures) ∙ c .before .if2 .taken) (reply-is (c .refuse .ensures)) ∙ pass-1 (c .before .before .before)
+returns-2 c =
+    let p = c .before .before in
+    here _ _ (sym (p .bad-place .ensures) ∙ c .before .if2 .taken) (reply-is (c .refuse .ensures)) ∙ pass-1 (p .before)
 
 returns-3 : tie.Need-returns-3
 returns-3 c =
