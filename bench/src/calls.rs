@@ -25,13 +25,15 @@ pub struct Call {
 }
 
 /// The result: a table that joins two, of twice their order, a table of the same order, a column, one that is worked out in a lent
-/// square, the whole matrix, the value of the reply, a row file, or fractions, which have no orders.
+/// square, one that shows a zero pivot in the last row, or whether it does, the whole matrix, the value of the reply, a row file, or
+/// fractions, which have no orders.
 #[derive(Clone, Copy, PartialEq)]
 pub enum Leaves {
     Joined,
     Table,
     Column,
     Dense,
+    Kernel,
     Matrix,
     Value,
     File,
@@ -57,7 +59,7 @@ macro_rules! call {
     };
 }
 
-pub static CALLS: [Call; 14] = [
+pub static CALLS: [Call; 16] = [
     // The entry farthest from the diagonal.
     call!(entry, Value, l: l.p, l.n, l.order, l.order, l.n, 1, &l.first),
     call!(matrix, Matrix, l: l.p, l.n, l.order, l.order, &l.first, &mut l.result),
@@ -69,6 +71,9 @@ pub static CALLS: [Call; 14] = [
     call!(product, Joined, l: l.p, l.n, l.order, l.order, l.order, l.order, &l.first, &l.second, &mut l.result),
     call!(solve, Column, l: l.p, l.n, l.order, l.order, &l.first, &l.column, &mut l.work, &mut l.result),
     call!(solve_dense, Dense, l: l.p, l.n, l.order, l.order, &l.first, &l.column, &mut l.work, &mut l.result),
+    call!(kernel, Kernel, l: l.p, l.n, l.order, l.order, &l.first, &mut l.result),
+    // The whole matrix, with a column that it sends to zeros.
+    call!(kernel_check, Kernel, l: l.p, l.n, l.order, l.order, l.n, &l.first, &l.column),
     call!(inverse, Table, l: l.p, l.n, l.order, l.order, &l.first, &mut l.result),
     call!(read_file, Table, l: &l.file, &mut l.result),
     call!(write_file, File, l: l.p, l.n, l.order, l.order, &l.first, &mut l.new_file),

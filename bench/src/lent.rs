@@ -8,7 +8,7 @@ pub const P: u32 = 2_147_483_647;
 pub const Q: u32 = 2_147_483_629;
 
 /// The numbers and buffers for tables of one order, below the diagonal and above it, or for fractions. No table in use has a zero
-/// pivot, and no place is without a fraction.
+/// pivot, but for one in the last row where the kernel is asked for, and no place is without a fraction.
 pub struct Lent {
     pub p: u32,
     pub q: u32,
@@ -52,6 +52,7 @@ impl Lent {
         };
         match call.leaves {
             Leaves::Fractions => lent.with_fractions(&mut random),
+            Leaves::Kernel => lent.with_zero_pivot(),
             _ => lent,
         }
     }
@@ -62,6 +63,23 @@ impl Lent {
         let places = std::iter::repeat_with(|| (random.residue_of(P), random.residue_of(Q))).filter(has_fraction);
         let (first, second) = places.take(self.n as usize).unzip();
         Lent { first, second, ..self }
+    }
+
+    /// The last d less by its pivot, and the column that shows it. The matrix sends a column to 0, .., 0, 1 that ends with 1 over the
+    /// last pivot.
+    fn with_zero_pivot(mut self) -> Lent {
+        let Lent { p, n, order, .. } = self;
+        let (mut column, mut pivot) = (vec![0; n as usize], [0]);
+        let (last, d) = (n as usize - 1, self.first.len() - row_words(order));
+        self.column.fill(0);
+        self.column[last] = 1;
+        let solved = plain::solve(p, n, order, order, &self.first, &self.column, &mut self.work, &mut column);
+        solved.and_then(|()| plain::solve(p, 1, 0, 0, &column[last..], &[1], &mut [], &mut pivot)).expect("no zero pivot");
+        self.first[d] = (self.first[d] + p - pivot[0]) % p;
+        let row = plain::kernel(p, n, order, order, &self.first, &mut self.column);
+        let shown = plain::kernel_check(p, n, order, order, n, &self.first, &self.column);
+        assert!(row == Ok(n) && shown == Ok(1), "the first zero pivot is not in the last row");
+        self
     }
 
     /// Takes what a call has written, and leaves other words.
@@ -80,7 +98,7 @@ fn result_words(call: &Call, rows: usize, order: u32) -> usize {
     match call.leaves {
         Leaves::Joined => rows * row_words(2 * order),
         Leaves::Table => rows * row_words(order),
-        Leaves::Column | Leaves::Dense | Leaves::Fractions => rows,
+        Leaves::Column | Leaves::Dense | Leaves::Kernel | Leaves::Fractions => rows,
         Leaves::Matrix => rows * rows,
         Leaves::Value | Leaves::File => 0,
     }

@@ -29,6 +29,8 @@ calls! {
     product = residues_product(p, n, r1, s1, r2, s2; first: u32, second: u32; result: u32);
     solve = residues_solve(p, n, r, s; table: u32, column: u32; work: u32, result: u32);
     solve_dense = residues_solve_dense(p, n, r, s; table: u32, column: u32; square: u32, result: u32);
+    kernel = residues_kernel(p, n, r, s; table: u32; result: u32);
+    kernel_check = residues_kernel_check(p, n, r, s, k; table: u32, column: u32;);
     inverse = residues_inverse(p, n, r, s; table: u32; result: u32);
     read_file = residues_read_file(; file: u8; result: u32);
     write_file = residues_write_file(p, n, r, s; table: u32; file: u8);

@@ -198,6 +198,35 @@ pub unsafe extern "C" fn residues_solve_dense(
 }
 
 #[no_mangle]
+pub unsafe extern "C" fn residues_kernel(
+    p: u32,
+    n: u32,
+    r: u32,
+    s: u32,
+    table: *const u32,
+    table_len: usize,
+    result: *mut u32,
+    result_len: usize,
+) -> u64 {
+    packed(crate::kernel(p, n, r, s, read(table, table_len), written(result, result_len)))
+}
+
+#[no_mangle]
+pub unsafe extern "C" fn residues_kernel_check(
+    p: u32,
+    n: u32,
+    r: u32,
+    s: u32,
+    k: u32,
+    table: *const u32,
+    table_len: usize,
+    column: *const u32,
+    column_len: usize,
+) -> u64 {
+    packed(crate::kernel_check(p, n, r, s, k, read(table, table_len), read(column, column_len)))
+}
+
+#[no_mangle]
 pub unsafe extern "C" fn residues_inverse(
     p: u32,
     n: u32,
