@@ -64,6 +64,7 @@ impl Buffer {
 #[derive(Clone, Copy, PartialEq, Eq, PartialOrd, Ord, Debug)]
 pub enum Fault {
     Pivot,
+    Regular,
     Singular,
     Fraction,
     Word(u32),
@@ -72,6 +73,7 @@ pub enum Fault {
     Length,
     Factor,
     Place,
+    Corner,
     OrderSums,
     Orders(usize),
     Size,
@@ -92,6 +94,7 @@ pub struct Case {
     pub orders: Vec<(u32, u32)>,
     /// i and j.
     pub place: (u32, u32),
+    pub k: u32,
     pub c: u32,
     /// By ascending number.
     pub buffers: Vec<Buffer>,
@@ -178,7 +181,7 @@ impl Case {
     /// A case of reading a file.
     pub fn reading(result: Vec<u32>, file: &[u32]) -> Case {
         let buffers = vec![Buffer::new(5, Holds::Table(0), result), Buffer::new(6, Holds::ReadFile, file.to_vec())];
-        let mut case = Case { p: 1, q: 1, n: 1, orders: vec![(1, 1)], place: (1, 1), c: 1, buffers, faults: vec![] };
+        let mut case = Case { p: 1, q: 1, n: 1, orders: vec![(1, 1)], place: (1, 1), k: 1, c: 1, buffers, faults: vec![] };
         case.read_head();
         case
     }

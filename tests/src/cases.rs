@@ -2,7 +2,7 @@
 
 use crate::calls::{Call, Number};
 use crate::case::{Buffer, Case, Fault, Holds};
-use crate::dense::Table;
+use crate::dense::{Table, LITERAL_SIZE};
 use crate::faults;
 use crate::layout::Shape;
 use crate::random::Random;
@@ -15,7 +15,7 @@ const PRIMES: [u32; 7] = [2, 3, 5, 7, 101, 2_147_483_629, LARGEST_PRIME];
 /// A case for a call: sound for half of the seeds, else with one to three faults. At times pivots are as they come.
 pub fn draw(call: &Call, random: &mut Random) -> Case {
     let mut case = sound(call, random);
-    if (call.pivots || call.is_dense()) && random.once_in(5) {
+    if (call.pivots || call.is_dense() || call.needs_zero_pivot()) && random.once_in(5) {
         case.buffer_mut(1).words = draw_table(case.p, case.shape(0), random);
     }
     add_surplus(&mut case, random);
@@ -36,14 +36,14 @@ pub fn with_faults(mut case: Case, faults: Vec<Fault>, random: &mut Random) -> C
     case
 }
 
-/// All numbers within limits, all buffers exact, no zero pivot, no singular matrix and no place without a fraction where a call
-/// would refuse it.
+/// All numbers within limits, all buffers exact, no zero pivot, or one where one is needed, no singular matrix and no place without a
+/// fraction where a call would refuse it.
 pub fn sound(call: &Call, random: &mut Random) -> Case {
     let (p, n) = (draw_prime(random), draw_size(call.largest_size(), random));
     let orders = draw_orders(call.tables, n, random);
-    let mut case = Case { p, q: 1, n, orders, place: (1, 1), c: 1, buffers: vec![], faults: vec![] };
+    let mut case = Case { p, q: 1, n, orders, place: (1, 1), k: 1, c: 1, buffers: vec![], faults: vec![] };
     match call.number {
-        Number::None => {}
+        Number::None | Number::Corner => {}
         Number::Place => case.place = draw_place(n, random),
         Number::Factor => case.c = draw_residue(p, random),
         Number::Prime => case.q = draw_other_prime(p, random),
@@ -56,6 +56,13 @@ pub fn sound(call: &Call, random: &mut Random) -> Case {
     if call.pivots {
         let (p, shape) = (case.p, case.shape(0));
         make_regular(p, shape, &mut case.buffer_mut(1).words, random);
+    }
+    if call.needs_zero_pivot() {
+        let (p, shape, row) = (case.p, case.shape(0), faults::draw_row(n, random) as usize);
+        make_zero_pivot(p, shape, &mut case.buffer_mut(1).words, row, random);
+    }
+    if call.number == Number::Corner {
+        make_corner(&mut case, random);
     }
     if call.is_dense() {
         make_nonsingular(&mut case, random);
@@ -275,6 +282,26 @@ fn make_nonsingular(case: &mut Case, random: &mut Random) {
         }
     }
     make_regular(p, shape, &mut case.buffer_mut(1).words, random);
+}
+
+/// Takes a corner, mostly a singular one, and mostly a column that shows it, at times but for a word.
+fn make_corner(case: &mut Case, random: &mut Random) {
+    let (p, shape) = (case.p, case.shape(0));
+    let most = if shape.n > LITERAL_SIZE { 40 } else { case.n };
+    let row = faults::draw_row(most, random);
+    case.k = if random.once_in(4) { random.between(1, most) } else { row };
+    if !random.once_in(5) {
+        make_zero_pivot(p, shape, &mut case.buffer_mut(1).words, row as usize, random);
+    }
+    let k = case.k as usize;
+    let shown = case.table().corner(k).matrix().null_with_one();
+    if let Some(column) = shown.filter(|_| !random.once_in(6)) {
+        let words = &mut case.buffer_mut(3).words;
+        words[..k].copy_from_slice(&column);
+        if random.once_in(3) {
+            words[random.below(k)] = random.between(0, p - 1);
+        }
+    }
 }
 
 /// Changes all residues to those of fractions.

@@ -9,6 +9,7 @@ use crate::trial::{compare, owed};
 mod dense;
 mod files;
 mod fractions;
+mod kernel;
 mod solved;
 mod two;
 
@@ -45,6 +46,7 @@ pub fn run(tally: &mut Tally) -> Result<(), String> {
     examples.on_two_tables()?;
     examples.of_pivots()?;
     examples.of_dense_solve()?;
+    examples.of_kernel()?;
     examples.of_files()?;
     examples.of_fractions()
 }
@@ -57,7 +59,7 @@ struct Examples<'t> {
 fn case(call: &Call, p: u32, n: u32, orders: (u32, u32), buffers: &[&[u32]]) -> Case {
     assert_eq!(call.buffers.len(), buffers.len());
     let lent = call.buffers.iter().zip(buffers).map(|(&(number, holds), words)| Buffer::new(number, holds, words.to_vec()));
-    Case { p, q: 1, n, orders: vec![orders], place: (1, 1), c: 1, buffers: lent.collect(), faults: vec![] }
+    Case { p, q: 1, n, orders: vec![orders], place: (1, 1), k: 1, c: 1, buffers: lent.collect(), faults: vec![] }
 }
 
 fn entry_case(p: u32, n: u32, orders: (u32, u32), place: (u32, u32), table: &[u32]) -> Case {

@@ -2,7 +2,7 @@
 
 use crate::calls::{Call, Number};
 use crate::case::{Case, Fault, Holds};
-use crate::cases::make_zero_pivot;
+use crate::cases::{make_regular, make_zero_pivot};
 use crate::dense::Table;
 use crate::layout::{Kind, Shape};
 use crate::random::Random;
@@ -29,6 +29,7 @@ pub fn all(call: &Call) -> Vec<Fault> {
     match call.number {
         Number::None => {}
         Number::Place => faults.push(Fault::Place),
+        Number::Corner => faults.push(Fault::Corner),
         Number::Factor => faults.push(Fault::Factor),
         Number::Prime => faults.extend([Fault::SecondPrime, Fault::EqualPrimes, Fault::Fraction]),
     }
@@ -40,6 +41,9 @@ pub fn all(call: &Call) -> Vec<Fault> {
     }
     if call.pivots {
         faults.push(Fault::Pivot);
+    }
+    if call.needs_zero_pivot() {
+        faults.push(Fault::Regular);
     }
     if call.is_dense() {
         faults.push(Fault::Singular);
@@ -66,6 +70,7 @@ pub fn plant(case: &mut Case, fault: Fault, random: &mut Random) {
 fn plant_in_call(case: &mut Case, fault: Fault, random: &mut Random) {
     match fault {
         Fault::Pivot => plant_pivot(case, random),
+        Fault::Regular => plant_regular(case, random),
         Fault::Singular => plant_singular(case, random),
         Fault::Fraction => plant_without(case, random),
         Fault::Prime => case.p = draw_no_prime(random),
@@ -80,6 +85,7 @@ fn plant_in_call(case: &mut Case, fault: Fault, random: &mut Random) {
         Fault::Orders(which) => plant_order(&mut case.orders[which], random),
         Fault::OrderSums => plant_order_sums(case, random),
         Fault::Place => plant_place(case, random),
+        Fault::Corner => case.k = draw_outside(case.n, random),
         Fault::Factor => case.c = not_below(case.p, random),
         Fault::Short(number) => cut(case, number, random),
         Fault::Word(number) => plant_words(case, number, random),
@@ -113,12 +119,17 @@ fn draw_above(random: &mut Random) -> (u32, u32) {
 }
 
 fn plant_place(case: &mut Case, random: &mut Random) {
-    let outside = random.one_of(&[0, 0, case.n + 1, case.n + 1, 1_025, 65_537, 0x8000_0000, u32::MAX]);
+    let outside = draw_outside(case.n, random);
     match random.below(3) {
         0 => case.place.0 = outside,
         1 => case.place.1 = outside,
         _ => case.place = (outside, outside),
     }
+}
+
+/// No row's number.
+fn draw_outside(n: u32, random: &mut Random) -> u32 {
+    random.one_of(&[0, 0, n + 1, n + 1, 1_025, 65_537, 0x8000_0000, u32::MAX])
 }
 
 /// A word that is no residue.
@@ -143,6 +154,12 @@ fn cut(case: &mut Case, number: u32, random: &mut Random) {
 fn plant_pivot(case: &mut Case, random: &mut Random) {
     let (p, shape, row) = (case.p, case.shape(0), draw_row(case.n, random) as usize);
     choose_pivots(p, shape, &mut case.buffer_mut(1).words, |k, m| if k == row { 0 } else { m });
+}
+
+/// Leaves no zero pivot.
+fn plant_regular(case: &mut Case, random: &mut Random) {
+    let (p, shape) = (case.p, case.shape(0));
+    make_regular(p, shape, &mut case.buffer_mut(1).words, random);
 }
 
 fn plant_singular(case: &mut Case, random: &mut Random) {
@@ -190,7 +207,8 @@ fn plant_without(case: &mut Case, random: &mut Random) {
     }
 }
 
-fn draw_row(n: u32, random: &mut Random) -> u32 {
+/// The first row, the last, or any.
+pub fn draw_row(n: u32, random: &mut Random) -> u32 {
     match random.below(3) {
         0 => 1,
         1 => n,

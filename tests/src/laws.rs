@@ -8,9 +8,9 @@ use crate::dense::{Matrix, Table, LITERAL_SIZE};
 use crate::faults;
 use crate::layout::Shape;
 use crate::random::Random;
-use crate::refusals::{LARGEST_ORDER, LARGEST_PRIME};
+use crate::refusals::{Reply, LARGEST_ORDER, LARGEST_PRIME};
 use crate::tally::Tally;
-use crate::trial::{compare, ended, only_accepted, trial};
+use crate::trial::{compare, ended, only_accepted, owed, trial};
 
 mod dense;
 mod drawn;
@@ -18,6 +18,7 @@ mod files;
 mod fractions;
 mod identities;
 mod inverses;
+mod kernel;
 mod singular;
 mod small;
 
@@ -28,7 +29,7 @@ pub struct Law {
     run: fn(&mut Laws) -> Result<(), String>,
 }
 
-pub const LAWS: [Law; 51] = [
+pub const LAWS: [Law; 60] = [
     Law { name: "groupings", times: 180, run: Laws::groupings },
     Law { name: "product_by_sum", times: 200, run: Laws::product_by_sum },
     Law { name: "multiples", times: 200, run: Laws::multiples },
@@ -80,6 +81,15 @@ pub const LAWS: [Law; 51] = [
     Law { name: "dense_influence", times: 300, run: Laws::dense_influence },
     Law { name: "dense_rooms", times: 60, run: Laws::dense_rooms },
     Law { name: "dense_fault_sets", times: dense::FAULT_SETS, run: Laws::dense_fault_sets },
+    Law { name: "kernel_rows", times: kernel::ROWS, run: Laws::kernel_rows },
+    Law { name: "kernel_rows_large", times: singular::PLACES.len() as u64, run: Laws::kernel_rows_large },
+    Law { name: "kernel_small", times: small::PARTS, run: Laws::kernel_small },
+    Law { name: "kernel_beside_solve", times: 2_100, run: Laws::kernel_beside_solve },
+    Law { name: "corners_shown", times: 900, run: Laws::corners_shown },
+    Law { name: "kernel_influence", times: 300, run: Laws::kernel_influence },
+    Law { name: "kernel_rooms", times: 60, run: Laws::kernel_rooms },
+    Law { name: "kernel_fault_sets", times: kernel::FAULT_SETS, run: Laws::kernel_fault_sets },
+    Law { name: "kernel_check_fault_sets", times: kernel::CHECK_FAULT_SETS, run: Laws::kernel_check_fault_sets },
 ];
 
 impl Law {
@@ -263,7 +273,7 @@ impl Laws {
     fn case(&mut self, call: &Call, tables: &[&Factor], c: u32, column: &[u32]) -> Case {
         let (p, n) = (tables[0].p, tables[0].shape.n as u32);
         let orders = tables.iter().map(|table| table.orders()).collect();
-        let mut case = Case { p, q: 1, n, orders, place: (1, 1), c, buffers: vec![], faults: vec![] };
+        let mut case = Case { p, q: 1, n, orders, place: (1, 1), k: 1, c, buffers: vec![], faults: vec![] };
         for &(number, holds) in call.buffers {
             let words = match (number, holds) {
                 (4 | 5, _) => (0..case.needed(holds)).map(|_| self.random.word()).collect(),
@@ -303,8 +313,45 @@ impl Laws {
         let mut case = cases::sound(call, &mut self.random);
         cases::add_surplus(&mut case, &mut self.random);
         let case = cases::with_faults(case, faults, &mut self.random);
-        let reply = trial(call, &case)?;
-        self.tally.record(call, &case, reply);
+        self.tried(call, &case).map(|_| ())
+    }
+
+    /// Runs a case and compares it with the dense answer.
+    fn tried(&mut self, call: &Call, case: &Case) -> Result<Reply, String> {
+        let reply = trial(call, case)?;
+        self.tally.record(call, case, reply);
+        Ok(reply)
+    }
+
+    /// The case with other idle words, other words past the N rows, other surplus, and other words in what is written: nothing follows
+    /// from them.
+    fn influence(&mut self, call: &Call, case: &Case) -> Result<(), String> {
+        let owed = owed(call, case);
+        self.answers(call, case, &owed)?;
+        for _ in 0..4 {
+            let mut other = case.clone();
+            let (p, shape) = (case.p, case.shape(0));
+            cases::fill_idle(&mut other.buffer_mut(1).words, p, shape, &mut self.random);
+            for buffer in other.buffers.iter_mut().filter(|buffer| !buffer.is_read()) {
+                buffer.words.iter_mut().for_each(|word| *word = self.random.word());
+            }
+            cases::add_surplus(&mut other, &mut self.random);
+            self.answers(call, &other, &owed)?;
+        }
+        Ok(())
+    }
+
+    /// The case, whose rooms are exact, and with a word less in any set of buffers.
+    fn rooms(&mut self, call: &Call, case: &Case) -> Result<(), String> {
+        for set in 0..1 << case.buffers.len() {
+            let mut other = case.clone();
+            let short = |(place, buffer): (usize, &mut Buffer)| {
+                let words = buffer.words.len() - (set >> place & 1);
+                buffer.words.truncate(words);
+            };
+            other.buffers.iter_mut().enumerate().for_each(short);
+            self.tried(call, &other)?;
+        }
         Ok(())
     }
 

@@ -1,6 +1,6 @@
 //! Every limit from both sides: each P, N and order around its bounds, and nothing else at fault.
 
-use crate::calls::{entry, fractions, read_file, write_file, Call, CALLS};
+use crate::calls::{entry, fractions, kernel_check, read_file, write_file, Call, CALLS};
 use crate::case::{Buffer, Case, Holds};
 use crate::layout::Shape;
 use crate::refusals::LARGEST_PRIME;
@@ -14,7 +14,7 @@ pub fn run(tally: &mut Tally) -> Result<(), String> {
         sizes(call, tally)?;
         orders(call, tally)?;
     }
-    Ok(())
+    corners(tally)
 }
 
 fn check(call: &Call, case: Case, tally: &mut Tally) -> Result<(), String> {
@@ -74,6 +74,18 @@ fn orders(call: &Call, tally: &mut Tally) -> Result<(), String> {
     Ok(())
 }
 
+/// Every k of small sizes, and those around the bounds of the largest.
+fn corners(tally: &mut Tally) -> Result<(), String> {
+    let call = &kernel_check::CALL;
+    for n in (1..=20).chain([1_024]) {
+        let to = if n < 1_024 { n } else { 1 };
+        for k in (0..=to).chain(n..=n + 2).chain([65_536, 65_537, 65_536 + n, 1 << 31, u32::MAX]) {
+            check(call, Case { k, ..zeros(call, 7, n, &[0, 0]) }, tally)?;
+        }
+    }
+    Ok(())
+}
+
 /// Zero matrices, or identities where a zero pivot or a singular matrix is refused, and a zero column, in buffers that are long
 /// enough wherever N is at most 2,048 and the orders at most 10; the second prime is 2.
 fn zeros(call: &Call, p: u32, n: u32, orders: &[u32]) -> Case {
@@ -100,7 +112,7 @@ fn zeros(call: &Call, p: u32, n: u32, orders: &[u32]) -> Case {
         Buffer::new(number, holds, words)
     };
     let buffers = call.buffers.iter().map(buffer).collect();
-    let mut case = Case { p, q: 2, n, orders, place: (1, 1), c: 0, buffers, faults: vec![] };
+    let mut case = Case { p, q: 2, n, orders, place: (1, 1), k: 1, c: 0, buffers, faults: vec![] };
     if call.reads_file() {
         case.read_head();
     }

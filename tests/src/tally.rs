@@ -128,7 +128,7 @@ const ACCEPTED_TWO: [Trait; 18] = [
 ];
 
 /// Traits of accepted cases whose pivots matter.
-const ACCEPTED_REGULAR: [Trait; 6] = [
+const ACCEPTED_PIVOTS: [Trait; 6] = [
     ("P is 2, orders above 1, N above 3", |case| case.p == 2 && orders_above_1(case)),
     ("P is 2,147,483,647, orders above 1, N above 3", |case| case.p == LARGEST_PRIME && orders_above_1(case)),
     ("r and s are 8, N above 3", |case| case.orders[0] == (8, 8) && case.n > 3),
@@ -169,6 +169,62 @@ const REFUSED_DENSE: [TraitOfReply; 6] = [
     ("singular, corner 1 too, N above 4", |case, reply| reply.number == 7 && case.n > 4 && singular_corner(case) == Some(1)),
     ("singular, N is 256", |case, reply| reply.number == 7 && case.n == LARGEST_DENSE_SIZE),
 ];
+
+/// Traits of cases of the kernel; an accepted reply's value is the row of the first zero pivot.
+const OF_KERNEL: [TraitOfReply; 9] = [
+    ("zero pivot in row 1, N above 4", |case, reply| reply.value == 1 && case.n > 4),
+    ("zero pivot in row N, N above 4", |case, reply| reply.value == case.n && case.n > 4),
+    ("zero pivot first in a row between, N above 4", |case, reply| reply.value > 1 && reply.value < case.n && case.n > 4),
+    ("zero pivot in row 1,024", |_, reply| reply.value == LARGEST_SIZE),
+    ("a zero pivot in a matrix that has an inverse", |case, reply| {
+        reply.number == 0 && case.n <= 5 && case.table().matrix().rank() == case.n as usize
+    }),
+    ("a word that is kept is not below P", |case, reply| {
+        let kept = reply.value as usize..case.n as usize;
+        reply.number == 0 && case.buffer(5).words[kept].iter().any(|&word| word >= case.p)
+    }),
+    ("regular, N above 4", |case, reply| reply.number == 13 && case.n > 4),
+    ("regular, N is 1,024", |case, reply| reply.number == 13 && case.n == LARGEST_SIZE),
+    ("the result has room for the column, not for N words", |case, reply| {
+        let room = case.buffer(5).words.len();
+        reply.number == 4 && case.faults == [Fault::Short(5)] && singular_corner(case).is_some_and(|k| k <= room)
+    }),
+];
+
+/// Traits of cases of the kernel's check; an accepted reply's value tells whether the column shows that corner k is singular.
+const OF_CHECK: [TraitOfReply; 14] = [
+    ("shown, k is 1, N above 4", |case, reply| reply.value == 1 && case.k == 1 && case.n > 4),
+    ("shown, k is N, N above 4", |case, reply| reply.value == 1 && case.k == case.n && case.n > 4),
+    ("shown, k is between, N above 4", |case, reply| reply.value == 1 && case.k > 1 && case.k < case.n && case.n > 4),
+    ("shown, k is 1,024", |case, reply| reply.value == 1 && case.k == LARGEST_SIZE),
+    ("shown, a later word is not 0", |case, reply| reply.value == 1 && case.column()[case.k as usize..].iter().any(|&x| x != 0)),
+    ("shown, an earlier corner is singular too", |case, reply| {
+        reply.value == 1 && singular_corner(case).is_some_and(|first| first < case.k as usize)
+    }),
+    ("not shown, word k is 1, N above 4", |case, reply| is_not_shown(reply) && word_k(case) == 1 && case.n > 4),
+    ("not shown, k is 1,024", |case, reply| is_not_shown(reply) && case.k == LARGEST_SIZE),
+    ("not shown, sent to zeros, word k is not 1", |case, reply| {
+        let k = case.k as usize;
+        is_not_shown(reply)
+            && case.n <= 12
+            && word_k(case) > 1
+            && case.table().corner(k).matrix().sends(&case.column()[..k]) == vec![0; k]
+    }),
+    ("not shown, all words are 0", |case, reply| is_not_shown(reply) && case.column().iter().all(|&x| x == 0)),
+    ("a bad word only after word k", |case, reply| (reply.number, reply.buffer) == (5, 3) && reply.row > case.k),
+    ("k is 0", |case, reply| reply.number == 8 && case.k == 0),
+    ("k is N + 1", |case, reply| reply.number == 8 && case.k == case.n + 1),
+    ("k outside, the table is too short", |case, reply| reply.number == 8 && case.faults.contains(&Fault::Short(1))),
+];
+
+fn is_not_shown(reply: Reply) -> bool {
+    (reply.number, reply.value) == (0, 0)
+}
+
+/// Word k of the column of the kernel's check.
+fn word_k(case: &Case) -> u32 {
+    case.column()[case.k as usize - 1]
+}
 
 /// The first singular corner.
 fn singular_corner(case: &Case) -> Option<usize> {
@@ -213,6 +269,17 @@ const REFUSED: [Trait; 3] = [
     ("an empty buffer as NULL", |case| case.buffers.iter().any(|buffer| buffer.null)),
 ];
 
+/// What a law must have met.
+const WAYS_OF_LAWS: [&str; 7] = [
+    "dense, both accepted",
+    "dense, only solve refused",
+    "dense, both refused",
+    "corner shown by one column",
+    "corner shown by several columns",
+    "singular corner, every last word is 0",
+    "regular corner",
+];
+
 const BAD_FIRST: &str = "bad word first in row 1";
 const BAD_LAST: &str = "bad word first in row N";
 const ZERO_FIRST: &str = "zero pivot in row 1, N above 1";
@@ -254,10 +321,8 @@ impl Tally {
         *self.outcomes.entry((call.name, reply.number, reply.buffer)).or_default() += 1;
         let lists = if reply.number == 0 { accepted(call) } else { vec![&REFUSED[..]] };
         lists.concat().iter().filter(|(_, holds)| holds(case)).for_each(|&(name, _)| self.count(call, name));
-        if reply.number != 0 {
-            let held = refused(call).iter().filter(|(_, holds)| holds(case, reply));
-            held.for_each(|&(name, _)| self.count(call, name));
-        }
+        let held = with_reply(call).iter().filter(|(_, holds)| holds(case, reply));
+        held.for_each(|&(name, _)| self.count(call, name));
         if reply.number == 5 && reply.row == 1 {
             self.count(call, BAD_FIRST);
         }
@@ -315,7 +380,8 @@ impl Tally {
 
     /// What should have been reached and was not.
     pub fn missing(&self) -> Vec<String> {
-        CALLS.iter().flat_map(|call| self.missing_of(call)).collect()
+        let laws = WAYS_OF_LAWS.iter().filter(|&name| !self.laws.contains_key(name)).map(|name| name.to_string());
+        CALLS.iter().flat_map(|call| self.missing_of(call)).chain(laws).collect()
     }
 
     fn missing_of(&self, call: &Call) -> Vec<String> {
@@ -334,7 +400,7 @@ impl Tally {
 fn traits_of(call: &Call) -> Vec<&'static str> {
     let mut names: Vec<&str> = accepted(call).concat().iter().chain(&REFUSED).map(|&(name, _)| name).collect();
     names.extend([BAD_FIRST, BAD_LAST]);
-    names.extend(refused(call).iter().map(|&(name, _)| name));
+    names.extend(with_reply(call).iter().map(|&(name, _)| name));
     if call.pivots {
         names.extend([ZERO_FIRST, ZERO_LAST, ZERO_BETWEEN, ZERO_INVERTIBLE]);
     }
@@ -344,10 +410,12 @@ fn traits_of(call: &Call) -> Vec<&'static str> {
     names
 }
 
-/// The traits of refused cases that look at the reply.
-fn refused(call: &Call) -> &'static [TraitOfReply] {
+/// The traits that look at the reply.
+fn with_reply(call: &Call) -> &'static [TraitOfReply] {
     match call.number {
         Number::Prime => &REFUSED_PRIMES,
+        Number::Corner => &OF_CHECK,
+        _ if call.needs_zero_pivot() => &OF_KERNEL,
         _ if call.reads_file() => &REFUSED_FILE,
         _ if call.is_dense() => &REFUSED_DENSE,
         _ => &[],
@@ -363,8 +431,8 @@ fn accepted(call: &Call) -> Vec<&'static [Trait]> {
     if call.tables == 2 {
         lists.push(&ACCEPTED_TWO);
     }
-    if call.pivots || call.is_dense() {
-        lists.push(&ACCEPTED_REGULAR);
+    if call.pivots || call.is_dense() || call.needs_zero_pivot() {
+        lists.push(&ACCEPTED_PIVOTS);
     }
     if call.is_dense() {
         lists.push(&ACCEPTED_DENSE);

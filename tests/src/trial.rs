@@ -112,8 +112,8 @@ fn owner(case: &Case, buffer: &Buffer, place: usize) -> String {
 }
 
 fn describe(case: &Case) -> String {
-    let Case { p, q, n, orders, place: (i, j), c, faults, .. } = case;
-    let mut text = format!("\n  P {p} second prime {q} N {n} orders {orders:?} i {i} j {j} c {c} faults {faults:?}");
+    let Case { p, q, n, orders, place: (i, j), k, c, faults, .. } = case;
+    let mut text = format!("\n  P {p} second prime {q} N {n} orders {orders:?} i {i} j {j} k {k} c {c} faults {faults:?}");
     for buffer in &case.buffers {
         let shown: Vec<String> = buffer.words.iter().take(200).map(u32::to_string).collect();
         let note = if buffer.null {

@@ -12,6 +12,8 @@ pub mod apply_transpose;
 pub mod entry;
 pub mod fractions;
 pub mod inverse;
+pub mod kernel;
+pub mod kernel_check;
 pub mod matrix;
 pub mod multiple;
 pub mod product;
@@ -22,7 +24,7 @@ pub mod sum;
 pub mod transpose;
 pub mod write_file;
 
-pub const CALLS: [&Call; 14] = [
+pub const CALLS: [&Call; 16] = [
     &entry::CALL,
     &matrix::CALL,
     &apply::CALL,
@@ -33,6 +35,8 @@ pub const CALLS: [&Call; 14] = [
     &product::CALL,
     &solve::CALL,
     &solve_dense::CALL,
+    &kernel::CALL,
+    &kernel_check::CALL,
     &inverse::CALL,
     &read_file::CALL,
     &write_file::CALL,
@@ -45,6 +49,8 @@ pub enum Number {
     None,
     /// i and j
     Place,
+    /// k
+    Corner,
     /// c
     Factor,
     /// the second prime
@@ -82,6 +88,11 @@ impl Call {
     /// Whether it is lent a square: then a singular matrix is refused, after every check, and its corners do not matter.
     pub fn is_dense(&self) -> bool {
         self.buffers.contains(&(4, Holds::Square))
+    }
+
+    /// Whether a table without a zero pivot is refused, after every check.
+    pub fn needs_zero_pivot(&self) -> bool {
+        self.outcomes.contains(&(13, 0))
     }
 
     pub fn largest_size(&self) -> u32 {
@@ -132,6 +143,14 @@ impl Answer {
         match solution {
             Some(column) => Answer { written: vec![square, (5, column)], ..Answer::value(0) },
             None => Answer { reply: Reply::singular(), written: vec![square] },
+        }
+    }
+
+    /// The column that shows the first singular corner, whose row is the value, or none is singular.
+    pub fn kernel(column: Option<Vec<u32>>) -> Answer {
+        match column {
+            Some(column) => Answer { reply: Reply::accepted(column.len() as u32), written: vec![(5, column)] },
+            None => Answer::refused(Reply::regular()),
         }
     }
 

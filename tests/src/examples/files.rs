@@ -34,7 +34,7 @@ fn file_with(changes: &[(usize, u32)]) -> Vec<u32> {
 fn writing(p: u32, n: u32, orders: (u32, u32), table: &[u32], count: usize) -> Case {
     let file = vec![0xa5; count];
     let buffers = vec![Buffer::new(1, Holds::Table(0), table.to_vec()), Buffer::new(6, Holds::WrittenFile, file)];
-    Case { p, q: 1, n, orders: vec![orders], place: (1, 1), c: 1, buffers, faults: vec![] }
+    Case { p, q: 1, n, orders: vec![orders], place: (1, 1), k: 1, c: 1, buffers, faults: vec![] }
 }
 
 impl Examples<'_> {

@@ -5,12 +5,12 @@ use super::{Factor, Laws};
 use crate::block::{sum_of_products, Block};
 use crate::calls::solve_dense::CALL;
 use crate::calls::{solve, Answer};
-use crate::case::{Buffer, Case};
+use crate::case::Case;
 use crate::cases;
 use crate::faults::{make_singular, SINGULAR_WAYS};
 use crate::layout::{Kind, Shape, KINDS};
 use crate::refusals::{Reply, LARGEST_DENSE_SIZE, LARGEST_ORDER, LARGEST_PRIME};
-use crate::trial::{only_accepted, owed, trial};
+use crate::trial::only_accepted;
 
 /// All sets of the call's faults.
 pub const FAULT_SETS: u64 = 1 << 10;
@@ -149,35 +149,13 @@ impl Laws {
     /// Idle words, words past the N rows, surplus, and what lies in the square and the result beforehand: nothing follows from them.
     pub fn dense_influence(&mut self) -> Result<(), String> {
         let case = self.draw_dense_case();
-        let owed = owed(&CALL, &case);
-        self.answers(&CALL, &case, &owed)?;
-        for _ in 0..4 {
-            let mut other = case.clone();
-            let (p, shape) = (case.p, case.shape(0));
-            cases::fill_idle(&mut other.buffer_mut(1).words, p, shape, &mut self.random);
-            for number in [4, 5] {
-                other.buffer_mut(number).words.iter_mut().for_each(|word| *word = self.random.word());
-            }
-            cases::add_surplus(&mut other, &mut self.random);
-            self.answers(&CALL, &other, &owed)?;
-        }
-        Ok(())
+        self.influence(&CALL, &case)
     }
 
     /// Exact rooms are enough, and a word less in any set of buffers is refused.
     pub fn dense_rooms(&mut self) -> Result<(), String> {
         let case = self.draw_dense_case();
-        for set in 0..1 << case.buffers.len() {
-            let mut other = case.clone();
-            let short = |(place, buffer): (usize, &mut Buffer)| {
-                let words = buffer.words.len() - (set >> place & 1);
-                buffer.words.truncate(words);
-            };
-            other.buffers.iter_mut().enumerate().for_each(short);
-            let reply = trial(&CALL, &other)?;
-            self.tally.record(&CALL, &other, reply);
-        }
-        Ok(())
+        self.rooms(&CALL, &case)
     }
 
     /// Every set of faults, planted in a case of its own: the first cause in the order of the checks decides.

@@ -60,7 +60,7 @@ impl Laws {
         let bytes = (0..count + self.random.below(6)).map(|_| self.random.word() & 255).collect();
         let buffers = vec![Buffer::new(1, Holds::Table(0), table.words.clone()), Buffer::new(6, Holds::WrittenFile, bytes)];
         let n = table.shape.n as u32;
-        let case = Case { p: table.p, q: 1, n, orders: vec![table.orders()], place: (1, 1), c: 1, buffers, faults: vec![] };
+        let case = Case { p: table.p, q: 1, n, orders: vec![table.orders()], place: (1, 1), k: 1, c: 1, buffers, faults: vec![] };
         let (reply, lent) = ended(&write_file::CALL, &case)?;
         self.tally.record(&write_file::CALL, &case, reply);
         Ok(lent.words(6)[..count].to_vec())

@@ -157,7 +157,7 @@ impl Laws {
         let words: [Vec<u32>; 4] = [first, second, any(), any()];
         let lent = CALL.buffers.iter().zip(words).map(|(&(number, holds), words)| Buffer::new(number, holds, words));
         let (n, buffers) = (places.len() as u32, lent.collect());
-        let mut case = Case { p: primes.p, q: primes.q, n, orders: vec![], place: (1, 1), c: 1, buffers, faults: vec![] };
+        let mut case = Case { p: primes.p, q: primes.q, n, orders: vec![], place: (1, 1), k: 1, c: 1, buffers, faults: vec![] };
         cases::add_surplus(&mut case, &mut self.random);
         case
     }

@@ -8,6 +8,21 @@ use crate::eliminated::Eliminated;
 use crate::layout::Kind;
 use crate::refusals::{Reply, LARGEST_PRIME};
 
+/// Rows of tables of 1,024, and their orders.
+pub const PLACES: [(usize, u32, u32); 8] =
+    [(1024, 1, 1), (1023, 2, 0), (1024, 8, 8), (512, 8, 1), (1, 1, 1), (2, 0, 3), (1024, 0, 0), (700, 3, 3)];
+
+impl Factor {
+    /// Its matrix, of which only the diagonal differs from the given one.
+    pub fn with_own_diagonal(&self, matrix: &Matrix) -> Matrix {
+        let mut entries = matrix.entries.clone();
+        for row in 1..=matrix.n {
+            entries[(row - 1) * (matrix.n + 1)] = self.words[self.shape.places(Kind::D, row).start];
+        }
+        Matrix { entries, ..*matrix }
+    }
+}
+
 impl Laws {
     /// Every row of a table of each size to 64.
     pub fn singular_rows(&mut self) -> Result<(), String> {
@@ -20,8 +35,6 @@ impl Laws {
 
     /// Some rows of tables of 1,024.
     pub fn singular_rows_large(&mut self) -> Result<(), String> {
-        const PLACES: [(usize, u32, u32); 8] =
-            [(1024, 1, 1), (1023, 2, 0), (1024, 8, 8), (512, 8, 1), (1, 1, 1), (2, 0, 3), (1024, 0, 0), (700, 3, 3)];
         let (row, r, s) = PLACES[self.number as usize];
         let p = if self.number.is_multiple_of(2) { LARGEST_PRIME } else { 3 };
         let drawn = self.draw(p, 1024, r, s);
@@ -31,16 +44,18 @@ impl Laws {
 
     /// The table with a zero pivot at row k, which the dense program confirms: solve and inverse both name the row.
     fn singular_at(&mut self, drawn: &Factor, matrix: &Matrix, k: usize) -> Result<(), String> {
-        let (p, n, table) = (drawn.p, drawn.shape.n, self.with_zero_pivot(drawn, k));
-        let mut entries = matrix.entries.clone();
-        for row in 1..=n {
-            entries[(row - 1) * (n + 1)] = table.words[table.shape.places(Kind::D, row).start];
-        }
-        assert_eq!(Eliminated::new(Matrix { entries, ..*matrix }).err(), Some(k), "the dense program finds another row");
+        let table = self.with_zero_pivot(drawn, k);
+        let dense = Eliminated::new(table.with_own_diagonal(matrix));
+        assert_eq!(dense.err(), Some(k), "the dense program finds another row");
+        self.refused_at(&table, k)
+    }
+
+    /// Solve and inverse name this row.
+    pub fn refused_at(&mut self, table: &Factor, k: usize) -> Result<(), String> {
         let owed = Answer::refused(Reply::zero_pivot(k));
-        let column = self.draw_column(p, n);
+        let column = self.draw_column(table.p, table.shape.n);
         for call in [&solve::CALL, &inverse::CALL] {
-            let case = self.case(call, &[&table], 0, &column);
+            let case = self.case(call, &[table], 0, &column);
             self.answers(call, &case, &owed)?;
         }
         Ok(())

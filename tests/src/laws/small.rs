@@ -2,7 +2,8 @@
 
 use super::{Factor, Laws};
 use crate::block::Block;
-use crate::calls::{inverse, solve, solve_dense, Answer};
+use crate::calls::{inverse, kernel, kernel_check, solve, solve_dense, Answer};
+use crate::case::Case;
 use crate::dense::{Matrix, Table};
 use crate::layout::{Kind, Shape, KINDS};
 use crate::refusals::Reply;
@@ -12,12 +13,19 @@ use crate::trial::ended;
 /// Into how many trials each law is cut.
 pub const PARTS: u64 = 16;
 
+/// What is done with each table.
+type Visit = fn(&mut Laws, &Factor) -> Result<(), String>;
+
 impl Laws {
     /// Every matrix modulo 2 and 3 of at most three rows, in tables of orders 2.
     pub fn small_matrices(&mut self) -> Result<(), String> {
+        self.each_matrix(Laws::every_column)
+    }
+
+    fn each_matrix(&mut self, visit: Visit) -> Result<(), String> {
         for (p, n) in [(2, 1), (2, 2), (2, 3), (3, 1), (3, 2), (3, 3)] {
             for number in self.part(p, n * n) {
-                self.every_column(&with_entries(p, n, &digits(p, n * n, number)))?;
+                visit(self, &with_entries(p, n, &digits(p, n * n, number)))?;
             }
         }
         Ok(())
@@ -25,13 +33,17 @@ impl Laws {
 
     /// Every table modulo 2 of orders 1 and at most three rows, and modulo 3 of two rows.
     pub fn small_tables(&mut self) -> Result<(), String> {
+        self.each_table(Laws::every_column)
+    }
+
+    fn each_table(&mut self, visit: Visit) -> Result<(), String> {
         for (p, n) in [(2, 1), (2, 2), (2, 3), (3, 2)] {
             let shape = Shape { n, r: 1, s: 1 };
             let used: Vec<usize> = (1..=n).flat_map(|k| shape.used_places(k)).collect();
             for number in self.part(p, used.len()) {
                 let mut words = vec![u32::MAX; shape.table_words()];
                 used.iter().zip(digits(p, used.len(), number)).for_each(|(&place, residue)| words[place] = residue);
-                self.every_column(&Factor { p, shape, words })?;
+                visit(self, &Factor { p, shape, words })?;
             }
         }
         Ok(())
@@ -90,11 +102,47 @@ impl Laws {
         }
         Ok(())
     }
+
+    /// The kernel of every matrix and table as above, and its check of every corner and every column.
+    pub fn kernel_small(&mut self) -> Result<(), String> {
+        self.each_matrix(Laws::every_kernel)?;
+        self.each_table(Laws::every_kernel)
+    }
+
+    fn every_kernel(&mut self, table: &Factor) -> Result<(), String> {
+        let (matrix, n) = (table.matrix(), table.shape.n);
+        let kernel = least_corner_by_trial(&matrix).map(|k| {
+            let mut shown = every(table.p, k).into_iter().filter(|column| shows(&matrix.corner(k), column));
+            let only = shown.next().expect("the first singular corner is shown");
+            assert!(shown.next().is_none(), "two columns show the first singular corner");
+            only
+        });
+        let case = self.case(&kernel::CALL, &[table], 0, &[]);
+        self.answers(&kernel::CALL, &case, &Answer::kernel(kernel))?;
+        let columns = every(table.p, n);
+        for k in 1..=n {
+            let corner = matrix.corner(k);
+            for column in &columns {
+                let case = Case { k: k as u32, ..self.case(&kernel_check::CALL, &[table], 0, column) };
+                let shown = shows(&corner, &column[..k]);
+                self.answers(&kernel_check::CALL, &case, &Answer::value(u32::from(shown)))?;
+            }
+        }
+        Ok(())
+    }
+}
+
+/// Whether the last word of a column is 1 and the matrix sends it to zeros.
+fn shows(matrix: &Matrix, column: &[u32]) -> bool {
+    column.ends_with(&[1]) && is_zero(&matrix.sends(column))
+}
+
+fn is_zero(column: &[u32]) -> bool {
+    column.iter().all(|&x| x == 0)
 }
 
 /// The least corner that sends a column other than zeros to zeros.
 fn least_corner_by_trial(matrix: &Matrix) -> Option<usize> {
-    let is_zero = |column: &[u32]| column.iter().all(|&x| x == 0);
     (1..=matrix.n).find(|&k| {
         let corner = matrix.corner(k);
         every(matrix.p, k).iter().any(|x| !is_zero(x) && is_zero(&corner.sends(x)))
