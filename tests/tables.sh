@@ -52,6 +52,21 @@ every_question() {
     done
 }
 
+# The column of each table that has a zero pivot, and the refusal of each that has none.
+every_kernel() {
+    local name
+    for name in M_zero spline_zero many_zero two_right; do
+        "$@" kernel "$tables/$name.txt"
+    done
+}
+
+every_regular() {
+    local name
+    for name in M spline house many one; do
+        "$@" kernel "$tables/$name.txt"
+    done
+}
+
 owe_right() {
     judge - "$@" || { echo "found wrong: $*"; exit 1; }
     right=$((right + 1))
@@ -108,7 +123,23 @@ plant_faults() {
     judge - product "$tables/many.txt" "$tables/many_right.txt"
     owe_wrong "$dense_check" product "$tables/many_right.txt" "$tables/many.txt" "$build/answer"
     owe_planted_wrong product "$tables/one.txt" "$tables/one.txt" <<< "5 1 0 0 1; 0 4"
+    plant_in_kernels
     plant_in_words
+}
+
+# A word off by one, the same residue by a larger word, a multiple, too few words, too many, a refusal where none is due, another number,
+# the column of a later corner; and a column, another number or another place where 13 is due.
+plant_in_kernels() {
+    local answer
+    for answer in "0 3 1" "0 9 1" "0 4 2" "2 1" "0 2 1 0" "refused 13 0 0" "refused 7 1 3"; do
+        owe_planted_wrong kernel "$tables/M_zero.txt" <<< "$answer"
+    done
+    for answer in "0 2 1" "refused 7 1 3" "refused 13 1 0" "refused 13 0 3"; do
+        owe_planted_wrong kernel "$tables/M.txt" <<< "$answer"
+    done
+    echo "5 3 0 0 1; 2 2; 3 0; 0 0" > "$build/zeros"
+    judge - kernel "$build/zeros"
+    owe_planted_wrong kernel "$build/zeros" <<< "0 0 1"
 }
 
 # In the scope paper's inverse of M: each idle word made 1, and a d of 3 made 10, which is the same modulo 7.
@@ -138,9 +169,12 @@ echo "== tables as printed: the library's answers, judged densely"
 gcc -std=c99 -O1 -g "${warnings[@]}" "$here/c/dense_check.c" -o "$build/dense_check"
 right=0
 every_question owe_right
+every_kernel owe_right
+every_regular owe_right
 "$dense_check" inverse "$here/../examples/M.rows" "$tables/M.inverse"
 found=0
 every_question owe_misreadings_wrong
+every_kernel owe_misreadings_wrong
 owe_unnoticed_misreadings_wrong
 plant_faults
 check_files_example

@@ -2,6 +2,7 @@
  *     answers matrix TABLE
  *     answers solution TABLE COLUMN
  *     answers dense TABLE COLUMN      the solution by the dense solve, for N to 256
+ *     answers kernel TABLE            the column of the first singular corner, as many words as it has rows
  *     answers product FIRST SECOND FILE
  *     answers inverse TABLE FILE
  * A table that is written goes to FILE too, as bytes. A refusal prints "refused" and its three numbers. An option before the name
@@ -177,6 +178,23 @@ static void answer_dense(char **paths)
     answer_by(residues_solve_dense, paths);
 }
 
+/* The column passes the library's own check on the same table, however that was misread. */
+static void answer_kernel(char **paths)
+{
+    static uint32_t column[ROWS];
+    const table *t = &first;
+    read_table(paths[0], &first);
+    const uint64_t reply = residues_kernel(t->p, t->n, t->r, t->s, t->words, WORDS, column, ROWS);
+    owe_accepted(reply);
+    const uint32_t k = residues_value(reply);
+    const uint64_t shown = residues_kernel_check(t->p, t->n, t->r, t->s, k, t->words, WORDS, column, ROWS);
+    owe_accepted(shown);
+    if (residues_value(shown) != 1) {
+        fail("the column does not pass the check");
+    }
+    print_words(column, k, k);
+}
+
 static void answer_product(char **paths)
 {
     const table *a = &first, *b = &second;
@@ -211,6 +229,7 @@ int main(int count, char **arguments)
     } answers[] = {{"matrix", 1, answer_matrix},
                    {"solution", 2, answer_solution},
                    {"dense", 2, answer_dense},
+                   {"kernel", 1, answer_kernel},
                    {"product", 3, answer_product},
                    {"inverse", 2, answer_inverse}};
     if (count > 1 && strncmp(arguments[1], "--", 2) == 0) {
@@ -227,5 +246,5 @@ int main(int count, char **arguments)
             return 0;
         }
     }
-    fail("answers [--heading|--file-order] matrix|solution|dense|product|inverse FILES");
+    fail("answers [--heading|--file-order] matrix|solution|dense|kernel|product|inverse FILES");
 }

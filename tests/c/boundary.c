@@ -30,7 +30,7 @@ typedef struct {
     size_t count;
 } lent;
 
-/* The numbers of a call; r2 and s2 are the second table's orders, p2 is the second prime. */
+/* The numbers of a call; r2 and s2 are the second table's orders, p2 is the second prime. Of the kernel's check i is k. */
 typedef struct {
     uint32_t p, n, r, s, i, j, c, r2, s2, p2;
 } numbers;
@@ -104,6 +104,16 @@ static uint64_t run_solve_dense(const numbers *x, const lent *b)
                                 b[WORK].words, b[WORK].count, b[RESULT].words, b[RESULT].count);
 }
 
+static uint64_t run_kernel(const numbers *x, const lent *b)
+{
+    return residues_kernel(x->p, x->n, x->r, x->s, b[TABLE].words, b[TABLE].count, b[RESULT].words, b[RESULT].count);
+}
+
+static uint64_t run_kernel_check(const numbers *x, const lent *b)
+{
+    return residues_kernel_check(x->p, x->n, x->r, x->s, x->i, b[TABLE].words, b[TABLE].count, b[COLUMN].words, b[COLUMN].count);
+}
+
 static uint64_t run_inverse(const numbers *x, const lent *b)
 {
     return residues_inverse(x->p, x->n, x->r, x->s, b[TABLE].words, b[TABLE].count, b[RESULT].words, b[RESULT].count);
@@ -126,8 +136,8 @@ static uint64_t run_fractions(const numbers *x, const lent *b)
                               (int32_t *)b[WORK].words, b[WORK].count, b[RESULT].words, b[RESULT].count);
 }
 
-enum { ENTRY, MATRIX, APPLY, APPLY_TRANSPOSE, SOLVE, SOLVE_DENSE, TRANSPOSE, MULTIPLE, INVERSE, SUM, PRODUCT, READ_FILE, WRITE_FILE,
-       FRACTIONS, CALLS };
+enum { ENTRY, MATRIX, APPLY, APPLY_TRANSPOSE, SOLVE, SOLVE_DENSE, KERNEL, KERNEL_CHECK, TRANSPOSE, MULTIPLE, INVERSE, SUM, PRODUCT,
+       READ_FILE, WRITE_FILE, FRACTIONS, CALLS };
 static const call calls[CALLS] = {
     {"residues_entry", run_entry, {1, 0, 0, 0, 0, 0}},
     {"residues_matrix", run_matrix, {1, 0, 0, 0, 1, 0}},
@@ -135,6 +145,8 @@ static const call calls[CALLS] = {
     {"residues_apply_transpose", run_apply_transpose, {1, 0, 1, 0, 1, 0}},
     {"residues_solve", run_solve, {1, 0, 1, 1, 1, 0}},
     {"residues_solve_dense", run_solve_dense, {1, 0, 1, 1, 1, 0}},
+    {"residues_kernel", run_kernel, {1, 0, 0, 0, 1, 0}},
+    {"residues_kernel_check", run_kernel_check, {1, 0, 1, 0, 0, 0}},
     {"residues_transpose", run_transpose, {1, 0, 0, 0, 1, 0}},
     {"residues_multiple", run_multiple, {1, 0, 0, 0, 1, 0}},
     {"residues_inverse", run_inverse, {1, 0, 0, 0, 1, 0}},
@@ -450,8 +462,8 @@ static void try_numbers(const call *f, const problem *q)
     try_primes_and_sizes(f, q);
     if (!has_two_primes(f))
         try_orders(f, q);
-    for (k = 0; k < 4 && f == &calls[ENTRY]; k++, wrong = *q) {
-        *(k % 2 == 0 ? &wrong.x.i : &wrong.x.j) = k < 2 ? 0 : q->x.n + 1;
+    for (k = 0; k < 4 && (f == &calls[ENTRY] || f == &calls[KERNEL_CHECK]); k++, wrong = *q) {
+        *(k % 2 == 0 || f == &calls[KERNEL_CHECK] ? &wrong.x.i : &wrong.x.j) = k < 2 ? 0 : q->x.n + 1;
         try_refused(f, &wrong, refusal(RESIDUES_BAD_PLACE, 0, 0));
     }
 }
@@ -533,15 +545,21 @@ static void try_late_refusal(const call *f, const problem *wrong, uint64_t owed)
     try_counts(f, wrong, wrong->needed, 1, 1, owed);
 }
 
+/* The table's words with another d in a row. */
+static uint32_t *with_d(numbers x, const uint32_t *table, uint32_t row, uint32_t d)
+{
+    const size_t width = residues_row_words(x.r, x.s);
+    uint32_t *words = room(x.n * width);
+    memcpy(words, table, x.n * width * sizeof *words);
+    words[width * (row - 1)] = d;
+    return words;
+}
+
 /* The table with another d in a row, whose pivot is then zero, and with it the whole matrix singular where there is a square. */
 static void try_singular(const call *f, const problem *q, uint32_t row, uint32_t d)
 {
     problem wrong = *q;
-    size_t count = q->needed[TABLE];
-    uint32_t *words = malloc(count * sizeof *words);
-    check(words != NULL, "no memory");
-    memcpy(words, q->words[TABLE], count * sizeof *words);
-    words[count / q->x.n * (row - 1)] = d;
+    uint32_t *words = with_d(q->x, q->words[TABLE], row, d);
     wrong.words[TABLE] = words;
     try_late_refusal(f, &wrong, refusal(RESIDUES_ZERO_PIVOT, RESIDUES_TABLE, has_square(f) ? 0 : row));
     free(words);
@@ -565,6 +583,48 @@ static void try_square(numbers x, const uint32_t *table, const uint32_t *column,
     try_whole(&calls[SOLVE_DENSE], &q);
     try_singular(&calls[SOLVE_DENSE], &q, x.n, last_d);
     free(zeros);
+}
+
+/* The check of corner k and the column, of which a word is another, gives 0. */
+static void try_not_shown(problem q, const uint32_t *column, uint32_t place, uint32_t word)
+{
+    uint32_t *other = room(q.x.n);
+    int at_end;
+    memcpy(other, column, q.x.n * sizeof *other);
+    other[place - 1] = word;
+    q.words[COLUMN] = other;
+    for (at_end = 0; at_end < 2; at_end++)
+        try_counts(&calls[KERNEL_CHECK], &q, q.needed, 0, at_end, 0);
+    free(other);
+}
+
+/* The first k words are written and the others stay; the check passes them with zeros behind, and with no other word in their place.
+ * The words of the table are given up. */
+static void try_kernel(numbers x, uint32_t *table, uint32_t k, const uint32_t *shown)
+{
+    uint32_t *result = room(x.n), *column = room(x.n), place;
+    problem q = problem_of(KERNEL, x, table, NULL, NULL, result, k);
+    for (place = 1; place <= x.n; place++)
+        result[place - 1] = place <= k ? shown[place - 1] : SURPLUS;
+    memcpy(column, shown, k * sizeof *column);
+    try_whole(&calls[KERNEL], &q);
+    x.i = k;
+    q = problem_of(KERNEL_CHECK, x, table, column, NULL, NULL, 1);
+    try_whole(&calls[KERNEL_CHECK], &q);
+    try_not_shown(q, column, k, 0);
+    try_not_shown(q, column, k, x.p - 1 > 1 ? x.p - 1 : 0);
+    for (place = 1; place < k; place += 1 + k / 4)
+        try_not_shown(q, column, place, column[place - 1] == 0);
+    free(table);
+    free(result);
+    free(column);
+}
+
+/* No pivot is zero. */
+static void try_no_kernel(numbers x, const uint32_t *table)
+{
+    const problem q = problem_of(KERNEL, x, table, NULL, NULL, NULL, 0);
+    try_late_refusal(&calls[KERNEL], &q, refusal(RESIDUES_REGULAR, RESIDUES_NO_BUFFER, 0));
 }
 
 /* One buffer, which may not be written, as both tables. */
@@ -706,6 +766,7 @@ static void file_m(void)
     static const uint32_t read[] = {7, 3, 1, 1, 2, 0, 5, 3, 9, 9, 9, 9, 4, 3, 1, 9, 9, 2, 1, 9, 9, 1, 3, 1, 2, 1, 2, 3, 1};
     static const uint32_t written[] = {7, 3, 1, 1, 1, 2, 1, 0, 0, 2, 1, 0, 0, 3, 3, 1, 2, 1, 2, 3, 1, 0, 5, 3, 0, 0, 0, 0, 4};
     static const uint32_t as_read[] = {1, 0, 0, 2, 1, 0, 0, 3, 1, 2, 1, 2, 3, 1, 5, 3, 0, 0, 0, 0, 4};
+    static const uint32_t one[] = {1}, second[] = {6, 1}, third[] = {0, 2, 1};
     const numbers x = {7, 3, 1, 1, 3, 1, 3, 1, 1, 0};
     try_problem(ENTRY, x, table, column, NULL, 5);
     try_problem(MATRIX, x, table, column, matrix, 0);
@@ -715,6 +776,10 @@ static void file_m(void)
     try_problem(MULTIPLE, x, table, column, tripled, 0);
     try_regular(SOLVE, x, table, applied, work, column, 1);
     try_square(x, table, applied, column, 1);
+    try_no_kernel(x, table);
+    try_kernel(x, with_d(x, table, 1, 0), 1, one);
+    try_kernel(x, with_d(x, table, 2, 2), 2, second);
+    try_kernel(x, with_d(x, table, 3, 1), 3, third);
     try_regular(INVERSE, x, table, NULL, NULL, inverse, 1);
     try_pair(SUM, x, table, table, twice);
     try_pair(PRODUCT, x, table, table, square);
@@ -1032,6 +1097,30 @@ static void known_square(uint32_t n, uint32_t r, uint32_t s)
     free(rows);
 }
 
+/* ---- the kernel ---- */
+
+/* d 5, p 2, g 3, and another last d, so that the last pivot is zero: each word is -v times what the words after it add up to. */
+static void known_kernel(uint32_t n, uint32_t r, uint32_t s)
+{
+    static const uint32_t one[] = {1};
+    const numbers x = {P, n, r, s, 1, 1, 1, 0, 0, 0};
+    uint32_t *table = room(residues_table_words(n, r, s)), *shown = room(n), sum = 0, k;
+    swept *rows = calloc(n, sizeof *rows);
+    check(rows != NULL, "no memory");
+    sweep(rows, x);
+    fill(table, x, 5, 2, 1, 3, 1, 4294967295u);
+    for (k = n; k >= 1; k--) {
+        shown[k - 1] = k == n ? 1 : minus(0, times(rows[k - 1].v, times(s, sum)));
+        sum = minus(sum, minus(0, shown[k - 1]));
+    }
+    try_no_kernel(x, table);
+    try_kernel(x, with_d(x, table, n, minus(5, rows[n - 1].m)), n, shown);
+    try_kernel(x, with_d(x, table, 1, 0), 1, one);
+    free(table);
+    free(shown);
+    free(rows);
+}
+
 /* ---- fractions ---- */
 
 /* A place with the residues of the whole number bound + 1, which no fraction within the bound has. */
@@ -1143,6 +1232,14 @@ int main(void)
     known_square(9, 3, 8);
     known_square(255, 1, 1);
     known_square(256, 8, 8);
+    known_kernel(1, 0, 0);
+    known_kernel(1, 8, 8);
+    known_kernel(2, 3, 1);
+    known_kernel(3, 2, 0);
+    known_kernel(3, 0, 2);
+    known_kernel(9, 3, 8);
+    known_kernel(1024, 1, 1);
+    known_kernel(1024, 8, 8);
     small_fractions();
     halves(5, 3, 1, 2);
     halves(101, 103, 2, 72);

@@ -42,6 +42,31 @@ static bool dense_solution_is_right()
     return is_solved && is_refused && residues_buffer(short_square) == RESIDUES_SQUARE;
 }
 
+// The same rows exchanged, whose first corner is singular, and 4, 4, 4, 4 modulo 5, whose second is; what has no zero pivot, by its name.
+static bool kernel_is_right()
+{
+    const uint32_t exchange[] = {0, 0, 0, 1, 1, 0, 0, 0, 1, 0, 0, 0, 0, 1}, fours[] = {4, 0, 0, 1, 4, 0, 0, 4, 4, 0, 0, 0, 0, 1};
+    const uint32_t ones[] = {1, 1};
+    uint32_t first[2] = {7, 7}, second[2] = {7, 7};
+    const uint64_t found_first = residues_kernel(5, 2, 1, 1, exchange, 14, first, 2);
+    const uint64_t found_second = residues_kernel(5, 2, 1, 1, fours, 14, second, 2);
+    const uint64_t regular = residues_kernel(5, 2, 0, 0, ones, 2, second, 2);
+    const uint64_t short_result = residues_kernel(5, 2, 1, 1, exchange, 14, nullptr, 0);
+    const uint64_t shown = residues_kernel_check(5, 2, 1, 1, 2, fours, 14, second, 2);
+    const uint64_t not_shown = residues_kernel_check(5, 2, 1, 1, 2, fours, 14, ones, 2);
+    const uint64_t outside = residues_kernel_check(5, 2, 1, 1, 3, nullptr, 0, nullptr, 0);
+    const uint64_t later = residues_kernel_check(5, 2, 1, 1, 1, exchange, 14, first, 2);
+    const bool is_found = residues_number(found_first) == RESIDUES_OK && residues_value(found_first) == 1 && first[0] == 1 &&
+                          first[1] == 7 && residues_number(found_second) == RESIDUES_OK && residues_value(found_second) == 2 &&
+                          second[0] == 4 && second[1] == 1;
+    const bool is_told = residues_number(shown) == RESIDUES_OK && residues_value(shown) == 1 &&
+                         residues_number(not_shown) == RESIDUES_OK && residues_value(not_shown) == 0;
+    const bool is_refused = residues_number(regular) == RESIDUES_REGULAR && residues_buffer(short_result) == RESIDUES_RESULT &&
+                            residues_number(outside) == RESIDUES_BAD_PLACE && residues_number(later) == RESIDUES_BAD_WORD &&
+                            residues_buffer(later) == RESIDUES_COLUMN && residues_row(later) == 2;
+    return is_found && is_told && is_refused;
+}
+
 int main()
 {
     const uint32_t diagonal[] = {2, 3};
@@ -65,5 +90,5 @@ int main()
     const bool is_read = residues_number(read) == RESIDUES_OK && residues_value(read) == 5 && table[0] == 2 && table[1] == 3;
     const bool files_are_right = is_written && is_read;
     const bool tables_are_right = entry_is_3 && sum_is_4_1 && product_is_4_4 && solution_is_1_1 && inverse_is_3_2;
-    return tables_are_right && files_are_right && fractions_are_right() && dense_solution_is_right() ? 0 : 1;
+    return tables_are_right && files_are_right && fractions_are_right() && dense_solution_is_right() && kernel_is_right() ? 0 : 1;
 }
