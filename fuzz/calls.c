@@ -4,11 +4,11 @@
 
 const char *const call_names[CALLS] = {"entry", "matrix", "apply", "apply_transpose", "transpose", "multiple",
                                        "sum", "product", "solve", "inverse", "read_file", "write_file", "fractions",
-                                       "solve_dense"};
+                                       "solve_dense", "kernel", "kernel_check"};
 
 /* t table, 2 second table, c column, w work, r result, f file. */
 static const char *const buffers_of[CALLS] = {"t", "tr", "tcr", "tcr", "tr", "tr", "t2r", "t2r", "tcwr", "tr", "rf", "tf", "t2wr",
-                                              "tcwr"};
+                                              "tcwr", "tr", "tc"};
 
 int uses(int call, int buffer)
 {
@@ -34,13 +34,15 @@ int refuses(int call, int number)
     case ZERO_PIVOT:
         return call == SOLVE || call == INVERSE || call == SOLVE_DENSE;
     case BAD_PLACE:
-        return call == ENTRY;
+        return call == ENTRY || call == KERNEL_CHECK;
     case BAD_LENGTH:
     case BAD_CHAIN:
         return call == READ_FILE;
     case EQUAL_PRIMES:
     case NO_FRACTION:
         return call == FRACTIONS;
+    case REGULAR:
+        return call == KERNEL;
     default:
         return 1;
     }
@@ -68,6 +70,7 @@ static size_t needed_result(const trial *t)
     case APPLY_TRANSPOSE:
     case SOLVE:
     case SOLVE_DENSE:
+    case KERNEL:
         return t->first.n;
     case SUM:
     case PRODUCT:
@@ -136,6 +139,10 @@ uint64_t run_call(const trial *t, void *const *lent)
         return residues_write_file(NUMBERS, LENT(TABLE), LENT(FILE_BYTES));
     case SOLVE_DENSE:
         return residues_solve_dense(NUMBERS, LENT(TABLE), LENT(COLUMN), LENT(WORK), LENT(RESULT));
+    case KERNEL:
+        return residues_kernel(NUMBERS, LENT(TABLE), LENT(RESULT));
+    case KERNEL_CHECK:
+        return residues_kernel_check(NUMBERS, t->i, LENT(TABLE), LENT(COLUMN));
     default:
         return residues_fractions(t->first.p, t->second.p, t->first.n, LENT(TABLE), LENT(SECOND), LENT(WORK), LENT(RESULT));
     }

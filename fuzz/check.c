@@ -13,7 +13,7 @@
 #define VALGRIND_MAKE_MEM_DEFINED(start, bytes) ((void)(start), (void)(bytes))
 #endif
 
-unsigned long tally[CALLS][REPLIES];
+unsigned long tally[CALLS][REPLIES], shown[2];
 char doing[300];
 static trial now;
 static answer owed;
@@ -121,6 +121,8 @@ void check_input(const uint8_t *data, size_t size, uint8_t *seen)
     note(&now, 1);
     work_out(&now, &owed);
     tally[now.call][owed.reply & 255]++;
+    if (now.call == KERNEL_CHECK && (owed.reply & 255) == ACCEPTED)
+        shown[owed.reply >> 32]++;
     mark_classes(&now, &owed, seen);
     run_at(1);
     run_at(0);
@@ -129,11 +131,12 @@ void check_input(const uint8_t *data, size_t size, uint8_t *seen)
 void print_tally(void)
 {
     int call, number;
-    printf("%-16s accepted, then refusals 1 to 12\n", "call");
+    printf("%-16s accepted, then refusals 1 to 13\n", "call");
     for (call = 0; call < CALLS; call++) {
         printf("%-16s", call_names[call]);
         for (number = 0; number < REPLIES; number++)
             refuses(call, number) ? printf(" %9lu", tally[call][number]) : printf("         -");
         printf("\n");
     }
+    printf("kernel_check gives 1 %lu times, 0 %lu times\n", shown[1], shown[0]);
 }

@@ -1,6 +1,6 @@
 /* Classes of inputs that the fuzzer is led to, though they may run the same code: the first cause of a refusal, alone or with
- * another, what a reply names, surplus, sizes and orders, fractions at their bound, singular corners and matrices. They lead the
- * fuzzer and judge nothing. */
+ * another, what a reply names, surplus, sizes and orders, fractions at their bound, singular corners and matrices, columns that show
+ * a corner. They lead the fuzzer and judge nothing. */
 #include "fuzz.h"
 
 /* Causes, told apart by buffer, in an order that is every call's. */
@@ -39,7 +39,8 @@ static uint32_t causes_of_numbers(const trial *t, shape of)
     const int bad_size = of.n < 1 || of.n > largest_size(t->call);
     return add_if(!is_prime(of.p), PRIME) | add_if(bad_size, SIZE) | add_if(is_above(of), FIRST_ORDER) |
            add_if(two && is_above(t->second), SECOND_ORDER) | add_if(two && (r > LARGEST_ORDER || s > LARGEST_ORDER), ORDER_SUM) |
-           add_if(t->call == ENTRY && (t->i < 1 || t->i > of.n || t->j < 1 || t->j > of.n), PLACE);
+           add_if(t->call == ENTRY && (t->i < 1 || t->i > of.n || t->j < 1 || t->j > of.n), PLACE) |
+           add_if(t->call == KERNEL_CHECK && (t->i < 1 || t->i > of.n), PLACE);
 }
 
 /* Of a buffer that is lent for numbers within limits: too short, or with a bad word in a row before the first table's. */
@@ -95,12 +96,21 @@ static uint32_t causes_of_fractions(const trial *t)
     return causes | add_if(place > 0 && (first == 0 || place < first) && (second == 0 || place < second), FRACTION);
 }
 
-/* Whether a pivot is zero, or of the dense solve the matrix is singular, where it is small: a larger one would take time. */
+/* Whether a pivot is zero, or of the kernel none; or of the dense solve the matrix is singular, where it is small: a larger one would
+ * take time. */
 static int has_no_pivot(const trial *t)
 {
+    if (t->call == KERNEL)
+        return zero_pivot(t) == 0;
     if (t->call != SOLVE_DENSE)
         return zero_pivot(t) != 0;
     return t->first.n <= DENSE_SIZE && column_without(t) != 0;
+}
+
+/* The causes that leave no table to look at. */
+static uint32_t no_table(void)
+{
+    return add_if(1, PRIME) | add_if(1, SHORT + TABLE) | add_if(1, WORD + TABLE);
 }
 
 static uint32_t all_causes(const trial *t)
@@ -116,7 +126,7 @@ static uint32_t all_causes(const trial *t)
         return causes;
     for (buffer = 0; buffer < BUFFERS; buffer++)
         causes |= causes_of_buffer(t, buffer);
-    if (refuses(t->call, ZERO_PIVOT) && (causes & (add_if(1, PRIME) | add_if(1, SHORT + TABLE) | add_if(1, WORD + TABLE))) == 0)
+    if ((refuses(t->call, ZERO_PIVOT) || refuses(t->call, REGULAR)) && (causes & no_table()) == 0)
         causes |= add_if(has_no_pivot(t), PIVOT);
     return causes | add_if(t->call == MULTIPLE && t->c >= t->first.p, FACTOR);
 }
@@ -213,6 +223,12 @@ static unsigned kind_of_column(uint32_t k, uint32_t n)
     return k < 3 ? k : k == n ? 3 : 4;
 }
 
+/* 2, another to 65537, larger. */
+static unsigned kind_of_prime(uint32_t p)
+{
+    return p == 2 ? 0 : p <= 65537 ? 1 : 2;
+}
+
 /* Of a dense solve that is accepted or finds the matrix singular: its size, the first singular corner, surplus of the square; of a
  * small one the first column without a pivot, exchanges, and the prime. */
 static void mark_whole(const trial *t, int accepted)
@@ -226,9 +242,43 @@ static void mark_whole(const trial *t, int accepted)
     start = mark(start, corners, corner_limits, 3);
     if (n <= DENSE_SIZE) {
         const unsigned without = kind_of_column(solve_whole(t, zeros, &exchanges), n);
-        const unsigned small[4] = {n > 8, without, exchanges, p == 2 ? 0 : p <= 65537 ? 1 : 2};
+        const unsigned small[4] = {n > 8, without, exchanges, kind_of_prime(p)};
         mark(start, small, small_limits, 4);
     }
+}
+
+/* Of a kernel that is accepted or finds no zero pivot: its row beside its size and beside its prime. Of one whose result alone is too
+ * short: whether there is room for the column. */
+static void mark_kernel(const trial *t, const answer *owed, uint32_t causes)
+{
+    const unsigned size_limits[2] = {8, 5}, prime_limits[2] = {3, 5}, room_limits[2] = {2, 2};
+    const uint32_t n = t->first.n, number = (uint32_t)(owed->reply & 255);
+    const unsigned row = kind_of_column((uint32_t)(owed->reply >> 32), n);
+    unsigned start = CLASSES - FRACTION_CLASSES - WHOLE_CLASSES - KERNEL_CLASSES;
+    if (number == ACCEPTED || number == REGULAR) {
+        const unsigned sizes[2] = {kind_of_size(n, LARGEST_SIZE), row}, primes[2] = {kind_of_prime(t->first.p), row};
+        start = mark(start, sizes, size_limits, 2);
+        mark(start, primes, prime_limits, 2);
+    } else if ((causes & ~add_if(1, PIVOT)) == add_if(1, SHORT + RESULT)) {
+        const uint32_t zero = zero_pivot(t);
+        const unsigned rooms[2] = {zero != 0, zero <= t->count[RESULT]};
+        mark(start + 8 * 5 + 3 * 5, rooms, room_limits, 2);
+    }
+}
+
+/* Of a kernel's check that is accepted: its value beside its size, beside the prime and where the first zero pivot lies, and beside
+ * that, k, word k, and whether more words follow. */
+static void mark_shown(const trial *t, unsigned value)
+{
+    const unsigned size_limits[2] = {2, 8}, prime_limits[3] = {2, 4, 3}, word_limits[5] = {2, 4, 5, 3, 2};
+    const uint32_t n = t->first.n, k = t->i, zero = zero_pivot(t), *x = t->before[COLUMN];
+    const unsigned side = zero == 0 ? 0 : k < zero ? 1 : k == zero ? 2 : 3;
+    const unsigned sizes[2] = {value, kind_of_size(n, LARGEST_SIZE)}, primes[3] = {value, side, kind_of_prime(t->first.p)};
+    const unsigned words[5] = {value, side, kind_of_column(k, n), x[k - 1], k < n && x[n - 1] != 0};
+    unsigned start = CLASSES - FRACTION_CLASSES - WHOLE_CLASSES - 2 * 8 - 2 * 4 * 3 - 2 * 4 * 5 * 3 * 2;
+    start = mark(start, sizes, size_limits, 2);
+    start = mark(start, primes, prime_limits, 3);
+    mark(start, words, word_limits, 5);
 }
 
 /* A size out of limits: 0, one above the call's largest, within another call's, above. */
@@ -288,4 +338,8 @@ void mark_classes(const trial *t, const answer *owed, uint8_t *seen)
         mark_fractions(t, owed);
     if (t->call == SOLVE_DENSE && (number == ACCEPTED || number == ZERO_PIVOT))
         mark_whole(t, number == ACCEPTED);
+    if (t->call == KERNEL)
+        mark_kernel(t, owed, causes);
+    if (t->call == KERNEL_CHECK && number == ACCEPTED)
+        mark_shown(t, (unsigned)(owed->reply >> 32));
 }

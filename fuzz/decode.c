@@ -103,7 +103,7 @@ static void decode_numbers(reader *in, trial *t)
     t->second.p = none ? prime_or_not(in) : t->first.p;
     t->second.r = two ? order_or_not(in, 4) : 0;
     t->second.s = two ? order_or_not(in, 4) : 0;
-    t->i = t->call == ENTRY ? place_or_not(in, t->first.n) : 0;
+    t->i = t->call == ENTRY || t->call == KERNEL_CHECK ? place_or_not(in, t->first.n) : 0;
     t->j = t->call == ENTRY ? place_or_not(in, t->first.n) : 0;
     t->c = 0;
     if (t->call == MULTIPLE)
@@ -129,8 +129,8 @@ static void decode_words(reader *in, trial *t)
 {
     const shape one = within_limits(t->first), two = within_limits(t->second);
     fill_table(in, one, t->before[TABLE]);
-    if (t->call == SOLVE || t->call == INVERSE)
-        aim_pivots(in, one, t->before[TABLE]);
+    if (t->call == SOLVE || t->call == INVERSE || t->call == KERNEL || t->call == KERNEL_CHECK)
+        aim_pivots(in, one, t->before[TABLE], t->call == KERNEL || t->call == KERNEL_CHECK);
     if (t->call == SOLVE_DENSE)
         aim_exchanges(in, one, t->before[TABLE]);
     if (uses(t->call, SECOND))
@@ -139,6 +139,8 @@ static void decode_words(reader *in, trial *t)
         aim_fractions(in, one, two, t->before[TABLE], t->before[SECOND]);
     if (uses(t->call, COLUMN))
         fill_words(in, one.p, t->before[COLUMN], one.n);
+    if (t->call == KERNEL_CHECK)
+        aim_shown(in, one, t->before[TABLE], t->before[COLUMN], &t->i);
 }
 
 /* Both tables are the same memory, where the orders and counts allow it. */

@@ -73,10 +73,11 @@ void fill_table(reader *in, shape of, uint32_t *words)
     fill_spots(in, of, spots_of(mode), words, table_words(of));
 }
 
-/* Sets d so that no pivot is 0, or the first zero pivot is that of a chosen row; some tables are left as they are. */
-void aim_pivots(reader *in, shape of, uint32_t *words)
+/* Sets d so that no pivot is 0, or the first zero pivot is that of a chosen row, of 255 the last where it may be; some tables are left as
+ * they are. */
+void aim_pivots(reader *in, shape of, uint32_t *words, int to_last)
 {
-    const uint32_t byte = next_byte(in), row = byte < 112 ? of.n + 1 : 1 + byte % of.n;
+    const uint32_t byte = next_byte(in), row = byte < 112 ? of.n + 1 : byte == 255 && to_last ? of.n : 1 + byte % of.n;
     const size_t width = row_words(of);
     table t;
     sweep w;
@@ -94,6 +95,26 @@ void aim_pivots(reader *in, shape of, uint32_t *words)
         w.m = w.m == 0 ? 1 : w.m;
         leave_row(&t, k, &w);
     }
+}
+
+/* Takes the row of the first zero pivot as k, unless that is out of limits, and the column that shows it; or a multiple, or one with
+ * another word; or takes the column alone. Some are left as they are. */
+void aim_shown(reader *in, shape of, const uint32_t *words, uint32_t *column, uint32_t *k)
+{
+    const uint32_t how = next_byte(in) / 32, place = how == 4 || how == 5 ? next_byte(in) : 0;
+    uint32_t row, x;
+    table t;
+    t.of = of;
+    t.words = words;
+    if (how < 2 || !is_prime(of.p) || bad_row(&t) != 0 || (row = first_zero(&t)) == 0)
+        return;
+    kernel_of(&t, row, column);
+    for (x = 0; x < row && how == 6; x++)
+        column[x] = plus(of.p, column[x], column[x]);
+    if (how == 4 || how == 5)
+        column[place % row] = plus(of.p, column[place % row], 1);
+    if (how < 7 && *k >= 1 && *k <= of.n)
+        *k = row;
 }
 
 /* The first word of a generator is set, its others are 0. */
@@ -135,7 +156,7 @@ void aim_exchanges(reader *in, shape of, uint32_t *words)
     const uint32_t how = next_byte(in), place = how / 4 % 4 < 2 ? 0 : next_byte(in);
     uint32_t k;
     if (how % 4 < 2)
-        aim_pivots(in, of, words);
+        aim_pivots(in, of, words, 0);
     for (k = 1; k <= of.n && how % 4 == 2; k++)
         put_corner(of, words, k, D, 0);
     if (how % 4 == 3 && of.p > 1)

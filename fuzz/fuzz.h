@@ -21,10 +21,10 @@
 
 /* The numbers of a refusal. */
 enum { ACCEPTED, BAD_PRIME, BAD_SIZE, BAD_ORDER, SHORT_BUFFER, BAD_WORD, BAD_ORDER_SUM, ZERO_PIVOT, BAD_PLACE, BAD_LENGTH,
-       BAD_CHAIN, EQUAL_PRIMES, NO_FRACTION, REPLIES };
+       BAD_CHAIN, EQUAL_PRIMES, NO_FRACTION, REGULAR, REPLIES };
 
 enum { ENTRY, MATRIX, APPLY, APPLY_TRANSPOSE, TRANSPOSE, MULTIPLE, SUM, PRODUCT, SOLVE, INVERSE, READ_FILE, WRITE_FILE, FRACTIONS,
-       SOLVE_DENSE, CALLS };
+       SOLVE_DENSE, KERNEL, KERNEL_CHECK, CALLS };
 
 /* The buffers; a reply names each by one number more. Of fractions both columns of residues are tables of orders 0, each with its
  * own prime, numerators are the work and denominators the result. The square of the dense solve is the work too. */
@@ -43,7 +43,7 @@ typedef struct {
     const uint32_t *words;
 } table;
 
-/* One call: its numbers, and each buffer's units, words or the bytes of a file, before it. */
+/* One call: its numbers, and each buffer's units, words or the bytes of a file, before it. Of the kernel's check i is k. */
 typedef struct {
     int call;
     shape first, second;
@@ -77,8 +77,9 @@ uint32_t scramble(uint32_t x);
 void decode(trial *t, const uint8_t *data, size_t size);
 void fill_table(reader *in, shape of, uint32_t *words);
 void fill_words(reader *in, uint32_t p, uint32_t *words, size_t count);
-void aim_pivots(reader *in, shape of, uint32_t *words);
+void aim_pivots(reader *in, shape of, uint32_t *words, int to_last);
 void aim_exchanges(reader *in, shape of, uint32_t *words);
+void aim_shown(reader *in, shape of, const uint32_t *words, uint32_t *column, uint32_t *k);
 void aim_fractions(reader *in, shape one, shape two, uint32_t *first, uint32_t *second);
 void fill_spots(reader *in, shape of, uint32_t count_of_spots, uint32_t *words, size_t count);
 void fill_file(reader *in, trial *t);
@@ -119,6 +120,8 @@ uint32_t dense_solve(uint32_t *matrix, uint32_t p, uint32_t n, uint32_t *column)
 uint32_t exchange_solve(uint32_t *matrix, uint32_t p, uint32_t n, uint32_t *column, uint32_t *exchanges);
 void sends(const table *t, const uint32_t *x, uint32_t *y);
 void column_of(const table *t, uint32_t j, uint32_t *y);
+uint32_t first_zero(const table *t);
+void kernel_of(const table *t, uint32_t row, uint32_t *x);
 
 /* A sweep of pivots: f before a row, then the row's pivot m, its v and y. */
 typedef struct {
@@ -128,8 +131,14 @@ void meet_pivot(const table *t, uint32_t k, sweep *w);
 void leave_row(const table *t, uint32_t k, sweep *w);
 
 /* exchanges.c */
+int has_few_columns(uint32_t p, uint32_t n);
+int next_column(uint32_t p, uint32_t n, uint32_t *x);
 uint32_t solve_whole(const trial *t, uint32_t *column, uint32_t *exchanges);
 uint32_t column_without(const trial *t);
+
+/* kernels.c */
+int shows(const trial *t, uint32_t k, const uint32_t *x);
+void dense_kernel(const trial *t, uint32_t k, uint32_t *x);
 
 /* fractions.c */
 uint32_t bound_of(uint32_t p1, uint32_t p2);
@@ -155,8 +164,9 @@ uint32_t zero_pivot(const trial *t);
 void work_out(const trial *t, answer *owed);
 int judge(const trial *t, const uint32_t *result);
 
-/* classes.c: a byte of seen for each class; those of the dense solve and of fractions are the last. */
-#define CLASSES 18578u
+/* classes.c: a byte of seen for each class; those of the kernel, of the dense solve and of fractions are the last. */
+#define CLASSES 22095u
+#define KERNEL_CLASSES 339u
 #define WHOLE_CLASSES 172u
 #define FRACTION_CLASSES 864u
 void mark_classes(const trial *t, const answer *owed, uint8_t *seen);
@@ -165,7 +175,7 @@ void mark_classes(const trial *t, const answer *owed, uint8_t *seen);
 void open_arenas(void);
 void *lend(int buffer, size_t bytes, int at_end);
 void only_read(int buffer, size_t bytes, int at_end, int yes);
-extern unsigned long tally[CALLS][REPLIES];
+extern unsigned long tally[CALLS][REPLIES], shown[2];
 extern char doing[300];
 void check_input(const uint8_t *data, size_t size, uint8_t *seen);
 void print_tally(void);

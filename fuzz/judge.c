@@ -107,6 +107,19 @@ static int is_matrix(const table *t, const uint32_t *result)
     return same_columns(columns[1], columns[2], n);
 }
 
+/* The first singular corner's column: there is only one. */
+static int is_kernel(const trial *t, const uint32_t *result)
+{
+    const uint32_t k = zero_pivot(t);
+    if (!are_residues(t->first.p, result, k))
+        return 0;
+    if (!shows(t, k, result)) {
+        printf("%s: the column does not show corner %u\n", doing, k);
+        return 0;
+    }
+    return 1;
+}
+
 int judge(const trial *t, const uint32_t *result)
 {
     const table one = table_in(t, TABLE), two = table_in(t, SECOND);
@@ -119,6 +132,8 @@ int judge(const trial *t, const uint32_t *result)
         return is_written_table(&new) && product_is(&new, &one, NULL);
     if (t->call == MATRIX)
         return are_residues(one.of.p, result, one.of.n * one.of.n) && is_matrix(&one, result);
+    if (t->call == KERNEL)
+        return is_kernel(t, result);
     if (!are_residues(one.of.p, result, one.of.n))
         return 0;
     sends(&one, result, columns[1]);

@@ -1,4 +1,5 @@
-/* Replays inputs, each a line of digits to base 16; fails where some call is never accepted or never gives one of its refusals.
+/* Replays inputs, each a line of digits to base 16; fails where some call is never accepted or never gives one of its refusals, or the
+ * kernel's check one of its values.
  * replay INPUTS prints how often each reply came, replay INPUTS quiet does not. */
 #include <signal.h>
 #include <stdio.h>
@@ -68,6 +69,10 @@ static int is_complete(void)
                 printf("%s never replies %d\n", call_names[call], number);
                 complete = 0;
             }
+    if (shown[0] == 0 || shown[1] == 0) {
+        printf("kernel_check never gives %d\n", shown[0] != 0);
+        complete = 0;
+    }
     return complete;
 }
 
