@@ -16,6 +16,8 @@ use Rattle.table.specs.Results.{entryW}
 use Rattle.table.specs.RowFile.{fileBytes}
 use Rattle.table.specs.Calls.{tableLength, entryChecks, entryReply, matrixChecks, matrixReply, applyChecks, applyReply, transposeChecks, transposeReply, multipleChecks, multipleReply, pairChecks, sumReply, productReply, solveEarlier, inverseEarlier, writeChecks, writeReply}
 use Rattle.table.specs.CallLaws.{passed, no-row, both-hold, good-prime}
+use Rattle.table.specs.WordLaws.{words-below}
+use Rattle.table.specs.Undertakings.{GoodNumbers, GoodTable}
 
 -- The prime, the size and the orders are within the limits, the table is long enough and no used word of it is P or more.
 pub record Good (P N : ℕ) (A : Table) : Type 0 where
@@ -26,6 +28,18 @@ pub record Good (P N : ℕ) (A : Table) : Type 0 where
   pub upper : A .upper ≤ 8
   pub long : tableLength N A ≤ length (A .words)
   pub words : firstBad P N A ≡ 0
+
+-- which is what a call asks of its numbers and its table
+pub good-of : (P N : ℕ) (A : Table) → GoodNumbers P N → GoodTable P N A → Good P N A
+good-of P N A n t = record {
+  prime = n .0;
+  limit = n .1;
+  most = n .3;
+  lower = t .0 .0;
+  upper = t .0 .1;
+  long = t .1;
+  words = words-below P N A .1 (t .2);
+}
 
 module _ (P N : ℕ) (A : Table) (c0 : badPrime (standard .prime) P ≡ false) (c1 : badSize (standard .size) N ≡ false) (c2 : badOrder (standard .order) (A .lower) (A .upper) ≡ false) (long : tableLength N A ≤ length (A .words)) (words : firstBad P N A ≡ 0) where
   good : Good P N A

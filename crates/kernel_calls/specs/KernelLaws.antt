@@ -10,11 +10,9 @@ use borrow.Author.Tests.{eq-eqb, ne-eqb}
 use Rattle.field.specs.Residue.{prime-pos}
 use Rattle.lists.specs.ListLaws.{length-tabulate}
 use Rattle.table.specs.Words.{Table}
-use Rattle.table.specs.WordLaws.{words-below}
 use Rattle.table.specs.Results.{firstZero}
 use Rattle.table.specs.Replies.{Reply, Check, check, accept, refuse, answer}
-use Rattle.table.specs.Undertakings.{GoodNumbers, GoodTable}
-use Rattle.checks.specs.Passed.{Good}
+use Rattle.checks.specs.Passed.{Good, good-of}
 use Rattle.refusals.specs.Ladder.{here, next, last, first-stop, first-clear, first-pass}
 use Rattle.calls.specs.Finish.{refused-leaves, accepted-leaves}
 use Rattle.kernels.specs.KernelCall.{kernelW, kernelEarlier, kernelReply, kernelAfter}
@@ -28,18 +26,6 @@ Leaves P N A d w out = (w ≡ kernelReply P N A d) × (out ≡ kernelAfter P N A
 -- y is the reply of the checks before the pivots
 pub record Checked (P N : ℕ) (A : Table) (d : List ℕ) (y : Reply) : Type 0 where
   pub is : y ≡ answer (kernelEarlier P N A d) (accept 0)
-
--- what the parts of a call ask of good numbers and a good table, under the modulus m
-pub good-of : (P N : ℕ) (A : Table) → GoodNumbers P N → GoodTable P N A → Good P N A
-good-of P N A g h = record {
-  prime = g .0;
-  limit = g .1;
-  most = g .3;
-  lower = h .0 .0;
-  upper = h .0 .1;
-  long = h .1;
-  words = words-below P N A .1 (h .2);
-}
 
 module _ {P N : ℕ} {A : Table} {d : List ℕ} {y : Reply} (c : Checked P N A d y) where
   abbrev checks : List Check

@@ -20,13 +20,12 @@ use Rattle.table.specs.Corners.{corner-is, corner-words}
 use Rattle.table.specs.Results.{column, applyW}
 use Rattle.table.specs.Replies.{Reply, NoFault, accept, answer}
 use Rattle.table.specs.CallLaws.{open-checks}
-use Rattle.checks.specs.Passed.{Good}
+use Rattle.checks.specs.Passed.{Good, good-of}
 use Rattle.block.specs.Block.{Within}
 use Rattle.refusals.specs.Ladder.{first-stop, first-clear}
 use Rattle.kernels.specs.KernelCall.{shows, showsChecks, showsReply}
 use Rattle.kernels.specs.KernelPromises.{GoodQuestion}
 use Rattle.kernels.specs.KernelPromisesProof.{clear-good}
-use Rattle.kernel_calls.specs.KernelLaws.{good-of}
 
 -- a word that the matrix sends the column to is not 0, of a table of n rows
 abbrev pub someSent : (P n : ℕ) → Table → List ℕ → Bool
