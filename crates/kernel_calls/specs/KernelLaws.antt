@@ -17,6 +17,7 @@ use Rattle.refusals.specs.Ladder.{here, next, last, first-stop, first-clear, fi
 use Rattle.calls.specs.Finish.{refused-leaves, accepted-leaves}
 use Rattle.kernels.specs.KernelCall.{kernelW, kernelEarlier, kernelReply, kernelAfter}
 use Rattle.kernels.specs.KernelPromises.{GoodLoan}
+use Rattle.kernel_sweeps.specs.KernelSweepLaws.{no-words}
 use Rattle.kernels.specs.KernelProof.{number-is, earlier-good}
 
 -- the call replies w and leaves the result out
@@ -65,18 +66,19 @@ module _ {P N : ℕ} {A : Table} {d : List ℕ} {y : Reply} (c : Checked P N A d
         row-is : firstZero P N A ≡ row
         row-is = sym (er ∙ ap (λ (m : ℕ). firstZero m N A) em)
 
-        pub regular : row ≡ 0 → {w : Reply} → w ≡ refuse 13 0 0 → {out : List ℕ} → out ≡ d → Leaves P N A d w out
-        regular z {w} ew q =
-            let e : w ≡ the-reply = passes (here [] (accept (firstZero P N A)) (eq-eqb (firstZero P N A) 0 (row-is ∙ z)) ew) in
-            let refused : the-reply .number ≢ 0 = λ n. absurd (let f : 13 ≡ 0 = number-is (sym ew ∙ e) ∙ n in omega arith) in
-            (e, q ∙ refused-leaves the-reply (kernelW P N A) d refused)
+        module _ {out : List ℕ} (q : out ≡ kernelW m N A ++ drop row d) where
+          pub regular : row ≡ 0 → {w : Reply} → w ≡ refuse 13 0 0 → Leaves P N A d w out
+          regular z {w} ew =
+              let e : w ≡ the-reply = passes (here [] (accept (firstZero P N A)) (eq-eqb (firstZero P N A) 0 (row-is ∙ z)) ew) in
+              let refused : the-reply .number ≢ 0 = λ n. absurd (let f : 13 ≡ 0 = number-is (sym ew ∙ e) ∙ n in omega arith) in
+              (e, q ∙ rw z (sym (no-words m N A d (sym er ∙ z))) ∙ refused-leaves the-reply (kernelW P N A) d refused)
 
-        words-long : length (kernelW P N A) ≡ row
-        unfolding kernelW
-        words-long = length-tabulate (firstZero P N A) _ ∙ row-is
+          words-long : length (kernelW P N A) ≡ row
+          unfolding kernelW
+          words-long = length-tabulate (firstZero P N A) _ ∙ row-is
 
-        pub written : 0 < row → {w : Reply} → w ≡ accept row → {out : List ℕ} → out ≡ kernelW m N A ++ drop row d → Leaves P N A d w out
-        written h {w} ew {out} q =
-            let some : eqb (firstZero P N A) 0 ≡ eqb 1 0 = ne-eqb (firstZero P N A) 0 (λ z. absurd (omega (arith, row-is))) in
-            let e : w ≡ the-reply = passes (next (refuse 13 0 0) [] (accept (firstZero P N A)) some (last (ew ∙ sym (ap accept row-is)))) in
-            (e, accepted-leaves the-reply (kernelW P N A) d out row (number-is (sym e ∙ ew)) words-long (rw em at q))
+          pub written : 0 < row → {w : Reply} → w ≡ accept row → Leaves P N A d w out
+          written h {w} ew =
+              let some : eqb (firstZero P N A) 0 ≡ eqb 1 0 = ne-eqb (firstZero P N A) 0 (λ z. absurd (omega (arith, row-is))) in
+              let e : w ≡ the-reply = passes (next (refuse 13 0 0) [] (accept (firstZero P N A)) some (last (ew ∙ sym (ap accept row-is)))) in
+              (e, accepted-leaves the-reply (kernelW P N A) d out row (number-is (sym e ∙ ew)) words-long (rw em at q))

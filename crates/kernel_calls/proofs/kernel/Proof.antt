@@ -41,11 +41,11 @@ kernel-spec =
     (λ c κs. search needs)
     (λ c. search needs)
     (λ c. let k = c .before .before .before .before in
-    regular (checked (checking k)) (passed k) (modulus-is k) (k .kernel .ensures .0) (c .before .if2 .taken) (reply-is (c .refuse .ensures))
-    (k .kernel .ensures .2 (c .before .if2 .taken)))
+    regular (checked (checking k)) (passed k) (modulus-is k) (k .kernel .ensures .0) (k .kernel .ensures .2) (c .before .if2 .taken)
+    (reply-is (c .refuse .ensures)))
     (λ c. let k = c .before .before .before in omega (arith, k .kernel .ensures .1, loan (checked (checking k)) (passed k) .0 .3))
     (λ c κs. search needs)
     (λ c. search needs)
     (λ c. let k = c .before .before .before .before in
     let found : 0 < k .kernel .result = omega (arith, c .before .if2 .left) in
-    written (checked (checking k)) (passed k) (modulus-is k) (k .kernel .ensures .0) found (reply-is (c .accept .ensures)) (k .kernel .ensures .3 found)))
+    written (checked (checking k)) (passed k) (modulus-is k) (k .kernel .ensures .0) (k .kernel .ensures .2) found (reply-is (c .accept .ensures))))
