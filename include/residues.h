@@ -167,8 +167,8 @@ uint64_t residues_kernel(uint32_t p, uint32_t n, uint32_t r, uint32_t s,
                          const uint32_t *table, size_t table_len, uint32_t *result, size_t result_len);
 
 /* Whether word k of the column, from 1, is 1 and the leading k by k corner sends the first k words to zeros: the reply's value is 1 where
- * both hold, else 0. For any k from 1 to n and any column, whoever made it. Reads the table and the column, all n words of it, and writes
- * nothing. Refuses 1, 2, 3, 8, 4, 5: 5 for words after the k-th too. */
+ * both hold, else 0. For any k from 1 to n and any column, whoever made it. 1 says that the corner is singular; 0 does not say that it is
+ * not. Reads the table and the column, all n words of it, and writes nothing. Refuses 1, 2, 3, 8, 4, 5: 5 for words after the k-th too. */
 uint64_t residues_kernel_check(uint32_t p, uint32_t n, uint32_t r, uint32_t s, uint32_t k,
                                const uint32_t *table, size_t table_len, const uint32_t *column, size_t column_len);
 

@@ -280,8 +280,8 @@ def kernel(p, n, r, s, table):
 
 def kernel_check(p, n, r, s, k, table, column):
     """Whether word k of the column, from 1, is 1 and the leading k by k corner sends the first k words to zeros, for any k from 1 to n
-    and any column. All n words are looked at, and one that is not below p is refused with 5. A column of k words alone, such as kernel
-    returns, is taken as if zeros followed it to the n-th word."""
+    and any column. True says that the corner is singular; False does not say that it is not. All n words are looked at, and one that is
+    not below p is refused with 5. A column of k words alone, such as kernel returns, is taken as if zeros followed it to the n-th word."""
     _, n, _, _, k = numbers = _numbers(p=p, n=n, r=r, s=s, k=k)
     lent, column = _lent(table=table, column=column)
     if len(column) == k:
