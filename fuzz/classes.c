@@ -1,6 +1,6 @@
 /* Classes of inputs that the fuzzer is led to, though they may run the same code: the first cause of a refusal, alone or with
- * another, what a reply names, surplus, sizes and orders, fractions at their bound, singular corners and matrices, columns that show
- * a corner. They lead the fuzzer and judge nothing. */
+ * another, what a reply names, surplus, sizes and orders, fractions at their bound, singular corners and matrices, columns that
+ * show a corner. They lead the fuzzer and judge nothing. */
 #include "fuzz.h"
 
 /* Causes, told apart by buffer, in an order that is every call's. */
@@ -96,8 +96,8 @@ static uint32_t causes_of_fractions(const trial *t)
     return causes | add_if(place > 0 && (first == 0 || place < first) && (second == 0 || place < second), FRACTION);
 }
 
-/* Whether a pivot is zero, or of the kernel none; or of the dense solve the matrix is singular, where it is small: a larger one would
- * take time. */
+/* Whether a pivot is zero, or of the kernel none; or of the dense solve the matrix is singular, where it is small: a larger one
+ * would take time. */
 static int has_no_pivot(const trial *t)
 {
     if (t->call == KERNEL)
@@ -247,8 +247,8 @@ static void mark_whole(const trial *t, int accepted)
     }
 }
 
-/* Of a kernel that is accepted or finds no zero pivot: its row beside its size and beside its prime. Of one whose result alone is too
- * short: whether there is room for the column. */
+/* Of a kernel that is accepted or finds no zero pivot: its row beside its size and beside its prime. Of one whose result alone is
+ * too short: whether there is room for the column. */
 static void mark_kernel(const trial *t, const answer *owed, uint32_t causes)
 {
     const unsigned size_limits[2] = {8, 5}, prime_limits[2] = {3, 5}, room_limits[2] = {2, 2};

@@ -73,8 +73,8 @@ void fill_table(reader *in, shape of, uint32_t *words)
     fill_spots(in, of, spots_of(mode), words, table_words(of));
 }
 
-/* Sets d so that no pivot is 0, or the first zero pivot is that of a chosen row, of 255 the last where it may be; some tables are left as
- * they are. */
+/* Sets d so that no pivot is 0, or the first zero pivot is that of a chosen row, of 255 the last where it may be; some tables are
+ * left as they are. */
 void aim_pivots(reader *in, shape of, uint32_t *words, int to_last)
 {
     const uint32_t byte = next_byte(in), row = byte < 112 ? of.n + 1 : byte == 255 && to_last ? of.n : 1 + byte % of.n;
@@ -97,7 +97,7 @@ void aim_pivots(reader *in, shape of, uint32_t *words, int to_last)
     }
 }
 
-/* Takes the row of the first zero pivot as k, unless that is out of limits, and the column that shows it; or a multiple, or one with
+/* Takes the row of the first zero pivot as k, unless k is out of limits, and the column that shows it; or a multiple, or one with
  * another word; or takes the column alone. Some are left as they are. */
 void aim_shown(reader *in, shape of, const uint32_t *words, uint32_t *column, uint32_t *k)
 {

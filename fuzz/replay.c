@@ -1,5 +1,5 @@
-/* Replays inputs, each a line of digits to base 16; fails where some call is never accepted or never gives one of its refusals, or the
- * kernel's check one of its values.
+/* Replays inputs, each a line of digits to base 16; fails where some call is never accepted or never gives one of its refusals, or
+ * the kernel's check one of its values.
  * replay INPUTS prints how often each reply came, replay INPUTS quiet does not. */
 #include <signal.h>
 #include <stdio.h>

@@ -127,8 +127,8 @@ plant_faults() {
     plant_in_words
 }
 
-# A word off by one, the same residue by a larger word, a multiple, too few words, too many, a refusal where none is due, another number,
-# the column of a later corner; and a column, another number or another place where 13 is due.
+# A word off by one, the same residue by a larger word, a multiple, too few words, too many, a refusal where none is due, by two
+# numbers, the column of a later corner; and a column, another number or a place where 13 is due.
 plant_in_kernels() {
     local answer
     for answer in "0 3 1" "0 9 1" "0 4 2" "2 1" "0 2 1 0" "refused 13 0 0" "refused 7 1 3"; do

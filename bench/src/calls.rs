@@ -25,8 +25,8 @@ pub struct Call {
 }
 
 /// The result: a table that joins two, of twice their order, a table of the same order, a column, one that is worked out in a lent
-/// square, one that shows a zero pivot in the last row, or whether it does, the whole matrix, the value of the reply, a row file, or
-/// fractions, which have no orders.
+/// square, one that shows a zero pivot in the last row, or whether it does, the whole matrix, the value of the reply, a row file,
+/// or fractions, which have no orders.
 #[derive(Clone, Copy, PartialEq)]
 pub enum Leaves {
     Joined,

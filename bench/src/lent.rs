@@ -65,8 +65,8 @@ impl Lent {
         Lent { first, second, ..self }
     }
 
-    /// The last d less by its pivot, and the column that shows it. The matrix sends a column to 0, .., 0, 1 that ends with 1 over the
-    /// last pivot.
+    /// The last d less by its pivot, and the column that shows it. The matrix sends a column to 0, .., 0, 1 that ends with 1 over
+    /// the last pivot.
     fn with_zero_pivot(mut self) -> Lent {
         let Lent { p, n, order, .. } = self;
         let (mut column, mut pivot) = (vec![0; n as usize], [0]);

@@ -598,8 +598,8 @@ static void try_not_shown(problem q, const uint32_t *column, uint32_t place, uin
     free(other);
 }
 
-/* The first k words are written and the others stay; the check passes them with zeros behind, and with no other word in their place.
- * The words of the table are given up. */
+/* The first k words are written and the others stay; the check passes them with zeros behind, and with no other word in their
+ * place. The words of the table are given up. */
 static void try_kernel(numbers x, uint32_t *table, uint32_t k, const uint32_t *shown)
 {
     uint32_t *result = room(x.n), *column = room(x.n), place;

@@ -42,7 +42,7 @@ static bool dense_solution_is_right()
     return is_solved && is_refused && residues_buffer(short_square) == RESIDUES_SQUARE;
 }
 
-// The same rows exchanged, whose first corner is singular, and 4, 4, 4, 4 modulo 5, whose second is; what has no zero pivot, by its name.
+// The same rows exchanged, whose first corner is singular, and rows 4 4, 4 4 modulo 5, whose second is; each refusal by its name.
 static bool kernel_is_right()
 {
     const uint32_t exchange[] = {0, 0, 0, 1, 1, 0, 0, 0, 1, 0, 0, 0, 0, 1}, fours[] = {4, 0, 0, 1, 4, 0, 0, 4, 4, 0, 0, 0, 0, 1};

@@ -36,8 +36,8 @@ pub fn with_faults(mut case: Case, faults: Vec<Fault>, random: &mut Random) -> C
     case
 }
 
-/// All numbers within limits, all buffers exact, no zero pivot, or one where one is needed, no singular matrix and no place without a
-/// fraction where a call would refuse it.
+/// All numbers within limits, all buffers exact, no zero pivot, or one where one is needed, no singular matrix and no place without
+/// a fraction where a call would refuse it.
 pub fn sound(call: &Call, random: &mut Random) -> Case {
     let (p, n) = (draw_prime(random), draw_size(call.largest_size(), random));
     let orders = draw_orders(call.tables, n, random);

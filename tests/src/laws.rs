@@ -323,8 +323,8 @@ impl Laws {
         Ok(reply)
     }
 
-    /// The case with other idle words, other words past the N rows, other surplus, and other words in what is written: nothing follows
-    /// from them.
+    /// The case with other idle words, other words past the N rows, other surplus, and other words in what is written: nothing
+    /// follows from them.
     fn influence(&mut self, call: &Call, case: &Case) -> Result<(), String> {
         let owed = owed(call, case);
         self.answers(call, case, &owed)?;

@@ -48,7 +48,8 @@ impl Examples<'_> {
         self.expect(&CHECK, case, [0, 0, 0, value], &[])
     }
 
-    /// M with the last pivot taken from d; rows whose second corner is singular; M times M and zeros, where it is the first; a diagonal.
+    /// M with the last pivot taken from d, or the second; rows whose second corner is singular; M times M and zeros, where it is the
+    /// first; a diagonal.
     fn kernels(&mut self) -> Result<(), String> {
         self.kernel_is(7, 3, (1, 1), &m_with(&[(14, 1)]), &[0, 2, 1])?;
         self.kernel_is(7, 3, (1, 1), &m_with(&[(7, 2)]), &[6, 1])?;
@@ -84,7 +85,8 @@ impl Examples<'_> {
         self.check_is(check_case(7, 3, (1, 1), 3, &table, &[0, 2, 1, 7, ANY]), 1)
     }
 
-    /// Corners after the first singular one: a diagonal 2, 0, 0 has several columns for its third. A matrix with an inverse has none.
+    /// Corners after the first singular one: a diagonal 2, 0, 0 has several columns for its third. A matrix with an inverse has
+    /// none.
     fn checks_of_other_corners(&mut self) -> Result<(), String> {
         for x in 0..5 {
             self.check_is(check_case(5, 3, (0, 0), 3, &[2, 0, 0], &[0, x, 1]), 1)?;
@@ -115,7 +117,7 @@ impl Examples<'_> {
         Ok(())
     }
 
-    /// Several causes at once: the first of the table decides, and 13 comes last. The result needs N words where only one is written.
+    /// Several causes at once: the first of the table decides, and 13 comes last. The result needs N words where one is written.
     fn order_of_kernel_refusals(&mut self) -> Result<(), String> {
         let (bad, zero) = (m_with(&[(14, 7)]), m_with(&[(0, 0)]));
         self.refuses(&CALL, kernel_case(9, 0, (9, 9), &[], &[]), 1, 0, 0)?;

@@ -1,5 +1,5 @@
-//! The kernel and its check: zero pivots in every row, columns that are wrong in a word, other corners, solve and inverse beside it,
-//! rooms, and words that influence nothing.
+//! The kernel and its check: zero pivots in every row, columns that are wrong in a word, other corners, solve and inverse beside
+//! it, rooms, and words that influence nothing.
 
 use super::singular::PLACES;
 use super::{Factor, Laws};
@@ -44,7 +44,7 @@ impl Laws {
         self.kernel_at(&drawn, &matrix, row)
     }
 
-    /// The table with its first zero pivot at row k: the kernel is the dense one, solve and inverse name its row, and the check knows it.
+    /// The table with its first zero pivot at row k: the kernel is the dense one, solve and inverse name its row, the check knows it.
     fn kernel_at(&mut self, drawn: &Factor, matrix: &Matrix, k: usize) -> Result<(), String> {
         let table = self.with_zero_pivot(drawn, k);
         let matrix = table.with_own_diagonal(matrix);
@@ -57,7 +57,7 @@ impl Laws {
         self.known_by_check(&table, &matrix, &shown)
     }
 
-    /// The check passes the kernel's own column, whatever residues follow it, and neither another word nor another last word nor the
+    /// The check passes the kernel's own column, whatever residues follow it, but neither with another word nor doubled nor for the
     /// corner before. A later word that is no residue is refused.
     fn known_by_check(&mut self, table: &Factor, matrix: &Matrix, shown: &[u32]) -> Result<(), String> {
         let (p, n, k) = (table.p, table.shape.n, shown.len());
