@@ -7,9 +7,9 @@ use native.Mathlib.Decide.{decLt}
 use lib.Dec.{leb}
 use borrow.Author.Tests.{lt-ltb, le-ltb, le-leb, lt-leb}
 use Rattle.algebra.specs.Ring.{Ring, Field}
-use Rattle.algebra.specs.Sums.{fold, act, dot, sumTo}
-use Rattle.algebra.specs.RingLaws.{neg-add, mul-one, mul-zero, zero-add, add-cancel}
-use Rattle.algebra.specs.SumLaws.{sum-zero}
+use Rattle.algebra.specs.Sums.{fold, act, dot}
+use Rattle.algebra.specs.RingLaws.{neg-add, mul-one, zero-add, add-cancel}
+use Rattle.algebra.specs.SumLaws.{dot-zeros}
 use Rattle.algebra.specs.Linear.{comp, same-map, sub-p, zero-p}
 use Rattle.algebra.specs.Coord.{self, vecs, cols, ray, two-ray, ray-zero}
 use Rattle.algebra.specs.Singular.{sent-to-zeros}
@@ -53,14 +53,11 @@ module _ {K : Ring} (r s : ℕ → ℕ) (c : ℕ → Gens K) (n : ℕ) where
   unfolding kernelBehind
   behind-start j = refl
 
-  act-zeros : (j i : ℕ) → act K (s (suc j)) (c j .b) (λ i. K .zero) i ≡ K .zero
-  act-zeros j i = ap (sumTo K (s (suc j))) (fun-ext (λ k. mul-zero K _)) ∙ sum-zero K (s (suc j))
-
   γ-last : γ n ≡ next n (γ (suc n)) (kernelG r s c n n)
   γ-last =
       let z : n - n ≡ 0 = omega arith in
       γ-here n (omega arith) ∙ ap (λ (m : ℕ). kernelBehind r s c m n) z ∙ behind-start n
-      ∙ sym (ap₂ (next n) γ-end kernel-last ∙ fun-ext (λ i. ap₂ (K .add) (act-zeros n i) (mul-one K (c n .h i)) ∙ zero-add K (c n .h i)))
+      ∙ sym (ap₂ (next n) γ-end kernel-last ∙ fun-ext (λ i. ap₂ (K .add) (dot-zeros K (s (suc n)) (c n .b i)) (mul-one K (c n .h i)) ∙ zero-add K (c n .h i)))
 
   γ-step : (j : ℕ) → j < suc n → γ j ≡ next j (γ (suc j)) (kernelG r s c n j)
   γ-step j h = go (decLt j n)

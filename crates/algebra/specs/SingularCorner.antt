@@ -1,14 +1,12 @@
 -- A leading corner is singular exactly from the first zero pivot on: no corner before it is, and the one that ends at its row is.
 -- The transposed table's least singular corner is the table's.
 use mathlib.Core.Logic.{_≢_, _↔_, _⊎_, inl, inr}
-use mathlib.Core.Path.{_≡_, sym, ap, _∙_, fun-ext}
+use mathlib.Core.Path.{_≡_, sym, _∙_}
 use Prim.Native.Nat.{ℕ, zero, suc, _<_, _≤_}
 use native.Mathlib.Decide.{decLt, ℕ-discrete}
 use native.Mathlib.Omega.{arith}
 use Rattle.algebra.specs.Ring.{Ring, Field}
-use Rattle.algebra.specs.Sums.{sumTo}
-use Rattle.algebra.specs.RingLaws.{mul-zero}
-use Rattle.algebra.specs.SumLaws.{sum-zero}
+use Rattle.algebra.specs.SumLaws.{dot-zeros}
 use Rattle.algebra.specs.Matrix.{Singular, LeastSingular}
 use Rattle.algebra.specs.Generators.{Gens, entryOf, transposeG, pivots, kernelG}
 use Rattle.algebra.specs.TransposeTable.{transpose-pivots}
@@ -26,7 +24,7 @@ module _ {K : Ring} (F : Field K) (r s : ℕ → ℕ) (c : ℕ → Gens K) where
   -- where the first n pivots are not zero, no leading corner up to n is singular
   pub regular-corner : (n j : ℕ) → j ≤ n → Regular r s c n → Singular K (entryOf r s c) j → ⊥
   regular-corner n j h ok z = z .1 .2 (one-to-one F r s c j (λ k l. ok k (omega arith)) (z .0) (λ k. K .zero)
-      (λ k l. z .2 k l ∙ sym (ap (sumTo K j) (fun-ext (λ i. mul-zero K _)) ∙ sum-zero K j)) (z .1 .0) (z .1 .1))
+      (λ k l. z .2 k l ∙ sym (dot-zeros K j _)) (z .1 .0) (z .1 .1))
 
   -- at the first zero pivot the corner sends a column whose last word is 1 to zeros
   pub corner-singular : (k : ℕ) → FirstZero r s c k → Singular K (entryOf r s c) (suc k)

@@ -45,6 +45,9 @@ module _ (K : Ring) where
   sum-swap zero m f = sym (sum-zero m)
   sum-swap (suc n) m f = ap (λ t. t ⊕ sumTo K m (f n)) (sum-swap n m f) ∙ sym (sum-add m (λ j. sumTo K n (λ i. f i j)) (f n))
 
+  pub dot-zeros : (n : ℕ) (u : ℕ → car) → dot K n u (λ i. K .zero) ≡ K .zero
+  dot-zeros n u = sum-ext n _ _ (λ j h. mul-zero K (u j)) ∙ sum-zero n
+
   pub dot-comm : (n : ℕ) (u v : ℕ → car) → dot K n u v ≡ dot K n v u
   dot-comm n u v = ap (sumTo K n) (fun-ext (λ j. mul-comm (u j) (v j)))
 
