@@ -20,13 +20,13 @@ use Rattle.lists.specs.Lists.{tabulate, over}
 use Rattle.lists.specs.ListLaws.{clash, length-tabulate, getD-here, tabulate-same}
 use Rattle.table.specs.Limits.{upTo}
 use Rattle.table.specs.Words.{Table, withWords, firstBad, firstBadPlace, matrixOf, SameColumn}
-use Rattle.table.specs.WordLaws.{words-below, place-below, place-good, place-same, bad-le, place-le, firstBad-same, matrix-same}
+use Rattle.table.specs.WordLaws.{words-below, place-below, place-good, place-same, firstBad-same, matrix-same}
 use Rattle.table.specs.Replies.{Reply, Check, Accepted, NoFault, causeAt, check, accept, refuse, answer, after, short}
 use Rattle.table.specs.Results.{column}
-use Rattle.table.specs.Calls.{tableLength, sizeChecks, solveReply, solveAfter}
+use Rattle.table.specs.Calls.{tableLength, solveReply, solveAfter}
 use Rattle.table.specs.CallLaws.{AllClear, lacks, none-gave, all-clear, value-is, kept, surplus, after-is, after-length, answer-append, open-checks, none-row}
 use Rattle.table.specs.AcceptsProof.{causes as badCauses}
-use Rattle.table.specs.PackedProof.{Fits, AllFit, fit-nil, fit-cons, parts, fits-answer, plain, zero-fits, size-is}
+use Rattle.table.specs.PackedProof.{Fits, AllFit, fit-nil, fit-cons, parts, plain, zero-fits, fits-sizes, short-fits, words-fit, column-fits}
 use Rattle.table.specs.UndertakingsProof.{first, second, third}
 use Rattle.elimination.specs.Elimination.{nonsingular, solution}
 use Rattle.elimination.specs.EliminationLaws.{solution-solves, solution-only, nonsingular-exactly}
@@ -258,33 +258,20 @@ module _ (P N : ℕ) (A : Table) (x v d : List ℕ) where
 
   -- ---- The reply as one number.
 
-  short-fits : (b : ℕ) → b < 256 → Fits (refuse 4 b 0)
-  short-fits b h = plain 4 b 0 (omega arith) h (omega arith)
-
-  numbers-fit : AllFit (sizeChecks P N (upTo 256) A [])
-  numbers-fit = fit-cons _ _ (plain 1 0 0 (omega arith) (omega arith) (omega arith)) (fit-cons _ _ (plain 2 0 0 (omega arith) (omega arith) (omega arith))
-      (fit-cons _ _ (plain 3 1 0 (omega arith) (omega arith) (omega arith)) fit-nil))
+  abbrev room-fits : (b : ℕ) → b < 256 → Fits (refuse 4 b 0)
+  room-fits = short-fits P N A
 
   -- the checks after the first three
-  abbrev others : List Check
-  others = drop 3 (denseChecks P N A x v d)
-
-  words-fit : N ≤ 256 → AllFit (drop 4 others)
-  words-fit h =
-      fit-cons _ _ (plain 5 1 _ (omega arith) (omega arith) (omega (arith, bad-le P N A)))
-      (fit-cons _ _ (plain 5 3 _ (omega arith) (omega arith) (omega (arith, place-le P N x)))
-      (fit-cons _ _ (plain 7 1 0 (omega arith) (omega arith) (omega arith)) fit-nil))
-
-  others-fit : N ≤ 256 → AllFit others
+  others-fit : N ≤ 256 → AllFit (drop 3 (denseChecks P N A x v d))
   others-fit h =
-      fit-cons _ _ (short-fits 1 (omega arith)) (fit-cons _ _ (short-fits 3 (omega arith))
-      (fit-cons _ _ (short-fits 4 (omega arith)) (fit-cons _ _ (short-fits 5 (omega arith)) (words-fit h))))
+      let l : N ≤ 1024 = omega arith in
+      fit-cons _ _ (room-fits 1 (omega arith)) (fit-cons _ _ (room-fits 3 (omega arith)) (fit-cons _ _ (room-fits 4 (omega arith))
+      (fit-cons _ _ (room-fits 5 (omega arith)) (fit-cons _ _ (words-fit P N A 1 (omega arith) A l) (fit-cons _ _ (column-fits P N A x l)
+      (fit-cons _ _ (plain 7 1 0 (omega arith) (omega arith) (omega arith)) fit-nil))))))
 
   fits : Fits y
   unfolding denseReply
-  fits = rw (answer-append (sizeChecks P N (upTo 256) A []) others (accept 0))
-      (fits-answer (sizeChecks P N (upTo 256) A []) (answer others (accept 0)) (λ k z. numbers-fit .at k)
-      (λ z. fits-answer others (accept 0) (λ k w. others-fit (size-is 256 N (z 1)) .at k) (λ w. zero-fits)))
+  fits = fits-sizes P N A (upTo 256) _ (accept 0) others-fit (λ z. zero-fits)
 
 pub promises : (P N : ℕ) (A : Table) (x v d : List ℕ) → DensePromises P N A x v d
 unfolding denseReply

@@ -12,13 +12,14 @@ use Rattle.lists.specs.ListLaws.{length-tabulate}
 use Rattle.table.specs.Words.{Table}
 use Rattle.table.specs.Results.{firstZero}
 use Rattle.table.specs.Replies.{Reply, Check, check, accept, refuse, answer}
+use Rattle.table.specs.CallLaws.{number-is}
 use Rattle.checks.specs.Passed.{Good, good-of}
 use Rattle.refusals.specs.Ladder.{here, next, last, first-stop, first-clear, first-pass}
 use Rattle.calls.specs.Finish.{refused-leaves, accepted-leaves}
 use Rattle.kernels.specs.KernelCall.{kernelW, kernelEarlier, kernelReply, kernelAfter}
 use Rattle.kernels.specs.KernelPromises.{GoodLoan}
 use Rattle.kernel_sweeps.specs.KernelSweepLaws.{no-words}
-use Rattle.kernels.specs.KernelProof.{number-is, earlier-good}
+use Rattle.kernels.specs.KernelProof.{earlier-good}
 
 -- the call replies w and leaves the result out
 abbrev pub Leaves : (P N : ℕ) (A : Table) (d : List ℕ) (w : Reply) (out : List ℕ) → Type 0

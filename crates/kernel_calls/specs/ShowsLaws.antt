@@ -3,12 +3,12 @@ use mathlib.Core.Bool.{Bool, true, false, not, _&&_}
 use mathlib.Core.List.{List, [], _++_}
 use mathlib.Core.Logic.{_≢_, inl, inr}
 use mathlib.Core.Path.{_≡_, refl, sym, ap, ap₂, _∙_}
-use Prim.Native.Nat.{ℕ, _+_, _-_, _<_, _≤_}
+use Prim.Native.Nat.{ℕ, zero, suc, _+_, _-_, _<_, _≤_}
 use native.Mathlib.Nat.{le-trans, mul-le-mul-right}
 use native.Mathlib.Omega.{arith}
-use lib.Dec.{ltb, eqb}
+use lib.Dec.{ltb, leb, eqb}
 use lib.ListN.{length, getD, drop}
-use borrow.Author.Tests.{eq-eqb, ne-eqb}
+use borrow.Author.Tests.{eq-eqb, ne-eqb, lt-ltb, le-ltb, lt-leb, le-leb}
 use Rattle.algebra.specs.Matrix.{sends}
 use Rattle.algebra.specs.MatrixLaws.{sends-same}
 use Rattle.algebra.specs.Generators.{pick}
@@ -31,10 +31,18 @@ use Rattle.kernels.specs.KernelPromisesProof.{clear-good}
 abbrev pub someSent : (P n : ℕ) → Table → List ℕ → Bool
 someSent P n A x = some n (λ i. ltb 0 (val P (sends (residues P) n (matrixOf P n A) (column P x) i)))
 
+one-or-more : (v : ℕ) → leb 1 v ≡ ltb 0 v
+one-or-more zero = lt-leb 1 0 (omega arith) ∙ sym (le-ltb 0 0 (omega arith))
+one-or-more (suc v) = le-leb 1 (suc v) (omega arith) ∙ sym (lt-ltb 0 (suc v) (omega arith))
+
 -- what apply has written tells it
-pub sent-some : (P n : ℕ) (A : Table) (x d : List ℕ) {out : List ℕ} → out ≡ applyW P n A x ++ drop n d → some n (λ i. ltb 0 (getD out i 0)) ≡ someSent P n A x
+pub sent-some : (P n : ℕ) (A : Table) (x d : List ℕ) {out : List ℕ} → out ≡ applyW P n A x ++ drop n d
+    → some n (λ i. leb 1 (getD out (0 + i) 0)) ≡ someSent P n A x
 unfolding applyW
-sent-some P n A x d e = some-same n _ _ (λ i h. ap (ltb 0) (ap (λ (l : List ℕ). getD l i 0) e ∙ getD-here n _ (drop n d) i h))
+sent-some P n A x d {out} e = some-same n _ _ (λ i h.
+    let z : 0 + i ≡ i = omega arith in
+    one-or-more (getD out (0 + i) 0) ∙ ap (λ (j : ℕ). ltb 0 (getD out j 0)) z
+    ∙ ap (ltb 0) (ap (λ (l : List ℕ). getD l i 0) e ∙ getD-here n _ (drop n d) i h))
 
 -- the first k rows of a good table are a good table
 good-corner : (P k N : ℕ) (A : Table) → k ≤ N → Good P N A → Good P k A

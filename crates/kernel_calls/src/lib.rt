@@ -3,11 +3,7 @@
 use checks::Reply;
 use field::Modulus;
 ghost use mathlib.Core.Path.{_≡_};
-ghost use Prim.Native.Nat.{_≤_};
-ghost use lib.Dec.{ltb};
-ghost use lib.ListN.{length, getD};
 ghost use Rattle.field.specs.Fit.{Fit};
-ghost use Rattle.lists.specs.Lists.{some};
 ghost use Rattle.table.specs.Words.{table as tab};
 ghost use Rattle.table.specs.Replies.{reply};
 ghost use Rattle.block.specs.Block.{Within};
@@ -36,30 +32,14 @@ pub fn kernel(p: u32, n: u32, r: u32, s: u32, table: &[u32], result: &mut [u32])
 
 // ---- The check.
 
-// Whether one of the first n words is not 0.
-fn some_left(x: &[u32], n: usize) -> bool
-    requires { ⌜ n ≤ length (now x) ⌝ }
-    ensures { λ b. ⌜ b ≡ some n (λ i. ltb 0 (getD (now (x .entry)) i 0)) ⌝ }
-{
-    let mut left = false;
-    let mut i = 0;
-    while i < n {
-        if 0 < x[i] {
-            left = true;
-        }
-        i += 1;
-    }
-    left
-}
-
-// Whether a good table of n rows sends the column to anything but zeros.
+// Whether a good table of n rows sends the column to anything but zeros, that is, to a word of 1 or more.
 fn sends_some(m: Modulus, n: usize, r: usize, s: usize, table: &[u32], column: &[u32]) -> bool
     requires { ⌜ Fit (m .p) (m .reciprocal) × Good (m .p) n (tab r s (now table)) × Within (m .p) (now column) 0 n ⌝ }
     ensures { λ b. ⌜ b ≡ someSent (m .p) n (tab r s (now (table .entry))) (now (column .entry)) ⌝ }
 {
     let mut out = [0u32; 1024];
     apply_calls::apply_words(m, n, r, s, table, column, &mut out);
-    some_left(&out, n)
+    word_checks::bad_words(1, &out, 0, n)
 }
 
 pub fn kernel_check(p: u32, n: u32, r: u32, s: u32, k: u32, table: &[u32], column: &[u32]) -> Reply

@@ -9,27 +9,29 @@ use native.Mathlib.Decide.{decLt}
 use lib.Dec.{ltb, eqb}
 use lib.ListN.{length, getD, take, drop}
 use lib.Seq.{getD-drop}
-use borrow.Author.Tests.{eqb-true, eq-eqb}
+use borrow.Author.Tests.{eqb-true, eq-eqb, not-true}
 use Rattle.algebra.specs.Ring.{Ring}
 use Rattle.algebra.specs.Matrix.{Matrix, sends, Singular}
 use Rattle.algebra.specs.MatrixLaws.{sends-same}
 use Rattle.algebra.specs.Generators.{pick}
 use Rattle.field.specs.Prime.{Prime}
+use Rattle.field.specs.PrimeTest.{and-true}
 use Rattle.field.specs.Residue.{residues, res, val, val-inj, val-small, res-one, field, prime-pos}
 use Rattle.field.specs.Bridge.{val-zero}
 use Rattle.lists.specs.Lists.{some}
 use Rattle.lists.specs.ListLaws.{clash, some-false, false-some, some-same}
+use Rattle.table.specs.Limits.{standard}
 use Rattle.table.specs.Words.{Table, withWords, matrixOf, firstBad, firstBadPlace, SameColumn}
 use Rattle.table.specs.WordLaws.{words-below, place-below, place-good, place-same, gens-same, firstBad-same, matrix-same}
 use Rattle.table.specs.Results.{column, firstZero, pivotW}
 use Rattle.table.specs.Replies.{Reply, Check, Accepted, NoFault, causeAt, checkRow, accept, refuse, answer, short, badPlace}
 use Rattle.table.specs.Calls.{tableLength}
-use Rattle.table.specs.CallLaws.{AllClear, all-clear, accepts-where, value-is, answer-append, open-checks, none-row}
+use Rattle.table.specs.CallLaws.{AllClear, number-is, all-clear, accepts-where, value-is, answer-append, open-checks, none-row}
 use Rattle.table.specs.AcceptsProof.{causes as badCauses}
 use Rattle.table.specs.PackedProof.{Fits, fit-nil, fit-cons, parts, plain, fits-sizes, short-fits, words-fit, column-fits}
 use Rattle.kernels.specs.KernelCall.{kernelW, shows, kernelReply, kernelAfter, showsChecks, showsReply}
 use Rattle.kernels.specs.KernelPromises.{SentToZeros, Shows, GoodLoan, GoodQuestion, ShowsCauses, CheckPromises, KernelPasses, KernelUnused, Promises}
-use Rattle.kernels.specs.KernelProof.{number-is, swept, kernel}
+use Rattle.kernels.specs.KernelProof.{swept, kernel}
 
 value-of : {w r : Reply} → w ≡ r → w .value ≡ r .value
 value-of = ap (λ (w : Reply). w .value)
@@ -37,15 +39,6 @@ value-of = ap (λ (w : Reply). w .value)
 -- 1 and 0 are not one value
 one-or-other : {X : Type 0} {w : Reply} → w ≡ accept 1 → w ≡ accept 0 → X
 one-or-other a b = absurd (let q : _≡_ {A = ℕ} 1 0 = value-of (sym a ∙ b) in omega arith)
-
-both-true : (a b : Bool) → (a && b) ≡ true → (a ≡ true) × (b ≡ true)
-both-true true true e = (refl, refl)
-both-true true false e = clash (sym e)
-both-true false b e = clash (sym e)
-
-not-true : (b : Bool) → not b ≡ true → b ≡ false
-not-true true e = clash (sym e)
-not-true false e = refl
 
 module _ (P N : ℕ) (A : Table) (k : ℕ) (x : List ℕ) where
   abbrev K : Ring
@@ -108,7 +101,7 @@ module _ (P N : ℕ) (A : Table) (k : ℕ) (x : List ℕ) where
     where
       there : shows P N A k x ≡ true → Shows P N A k x
       there e =
-          let z = both-true _ _ e in
+          let z = and-true _ _ e in
           let none = some-false k not-zero (not-true _ (z .1)) in (
             eqb-true (getD x (k - 1) 0) 1 (z .0),
             λ i h. val-inj P _ _ (none-row _ .0 (none i h) ∙ sym (val-zero P (prime-pos P prime))),
@@ -180,7 +173,7 @@ module _ (P N : ℕ) (A : Table) (k : ℕ) (x : List ℕ) where
 
   fits : Fits y
   unfolding showsReply
-  fits = fits-sizes P N A _ _ (λ l.
+  fits = fits-sizes P N A standard _ _ (λ l.
       fit-cons _ _ (plain 8 0 0 (omega arith) (omega arith) (omega arith))
       (fit-cons _ _ (short-fits P N A 1 (omega arith)) (fit-cons _ _ (short-fits P N A 3 (omega arith))
       (fit-cons _ _ (words-fit P N A 1 (omega arith) A l) (fit-cons _ _ (column-fits P N A x l) fit-nil)))))

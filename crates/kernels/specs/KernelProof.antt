@@ -25,7 +25,7 @@ use Rattle.table.specs.WordLaws.{words-below}
 use Rattle.table.specs.Results.{column, columnWords, firstZero}
 use Rattle.table.specs.Replies.{Reply, Check, Accepted, NoFault, causeAt, check, accept, refuse, answer, short}
 use Rattle.table.specs.Calls.{tableLength, solveEarlier, solveReply, inverseEarlier, inverseReply, checkPivots}
-use Rattle.table.specs.CallLaws.{AllClear, lacks, none-gave, all-clear, value-is, kept, surplus, after-is, after-length, answer-append, open-checks, none-row}
+use Rattle.table.specs.CallLaws.{AllClear, lacks, number-is, none-gave, all-clear, value-is, kept, surplus, after-is, after-length, answer-append, open-checks, none-row}
 use Rattle.table.specs.SingularRow.{least-singular, singular-first, regular-none, none-regular}
 use Rattle.table.specs.AcceptsProof.{causes as badCauses}
 use Rattle.table.specs.PackedProof.{Fits, fit-nil, fit-cons, parts, plain, fits-sizes, short-fits, words-fit}
@@ -35,9 +35,6 @@ use Rattle.dense.specs.DenseCall.{denseReply}
 use Rattle.dense.specs.DensePromisesProof.{promises as dense-promises}
 use Rattle.kernels.specs.KernelCall.{kernelW, kernelEarlier, kernelChecks, kernelReply, kernelAfter}
 use Rattle.kernels.specs.KernelPromises.{ZeroPivotAt, SentToZeros, Shows, GoodLoan, KernelCauses, KernelPromises, ZeroPivotSwept}
-
-pub number-is : {w r : Reply} → w ≡ r → w .number ≡ r .number
-number-is = ap (λ (w : Reply). w .number)
 
 -- what the last check makes of the row of the first zero pivot, 0 for none
 abbrev end : ℕ → Reply
@@ -297,7 +294,7 @@ module _ (P N : ℕ) (A : Table) where
 
     fits : Fits y
     unfolding kernelReply
-    fits = fits-sizes P N A _ (accept zero-row) (λ l.
+    fits = fits-sizes P N A standard _ (accept zero-row) (λ l.
         fit-cons _ _ (short-fits P N A 1 (omega arith)) (fit-cons _ _ (short-fits P N A 5 (omega arith)) (fit-cons _ _ (words-fit P N A 1 (omega arith) A l)
         (fit-cons _ _ (plain 13 0 0 (omega arith) (omega arith) (omega arith)) fit-nil))))
         (λ z. (omega arith, omega arith, omega arith, omega (arith, row-le, badCauses .size 1024 N .0 (z 1) .1)))

@@ -17,6 +17,10 @@ use Rattle.field.specs.PrimeTest.{isPrime, is-prime}
 use Rattle.lists.specs.ListLaws.{clash}
 use Rattle.table.specs.Replies.{Reply, Check, answer, Accepted, causeAt, refusalAt, FirstFault, NoFault, after, badPrime}
 
+-- equal replies have one number
+pub number-is : {w r : Reply} → w ≡ r → w .number ≡ r .number
+number-is = ap (λ (w : Reply). w .number)
+
 -- A refusal is given where its cause holds and no earlier one does,
 pub given : (cs : List Check) (v : Reply) (n : ℕ) → FirstFault cs n → answer cs v ≡ refusalAt cs n
 unfolding answer

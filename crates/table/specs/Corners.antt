@@ -1,23 +1,15 @@
 -- The first k rows of a table are a table of k rows, which stands for the leading k by k corner.
-use mathlib.Core.Path.{_≡_, refl, sym, _∙_}
-use Prim.Native.Nat.{ℕ, zero, suc, _<_, _≤_}
+use mathlib.Core.Path.{_≡_, sym, _∙_}
+use Prim.Native.Nat.{ℕ, suc, _<_, _≤_}
 use native.Mathlib.Nat.{le-trans}
 use native.Mathlib.Omega.{arith}
 use native.Mathlib.Decide.{ℕ-discrete}
-use borrow.Author.Tests.{eq-eqb, ne-eqb}
 use Rattle.algebra.specs.Matrix.{Same}
 use Rattle.algebra.specs.Kinds.{Kind, d-word, p-row, a-block, q-column, g-row, b-block, h-column}
 use Rattle.algebra.specs.Agree.{entries-agree, corner-agrees}
 use Rattle.field.specs.Residue.{residues}
 use Rattle.table.specs.Words.{Table, gap, Used, tableWord, gens, matrixOf, firstBad}
-use Rattle.table.specs.WordLaws.{gen-used, words-below}
-
-inside : (N r m : ℕ) → 0 < m → m < N → gap N r m ≡ r
-inside N r m h l = rw (ne-eqb m 0 (λ e. omega arith), ne-eqb m N (λ e. omega arith)) refl
-
-at-end : (N r m : ℕ) → m ≡ N → gap N r m ≡ 0
-at-end N r zero e = refl
-at-end N r (suc m) e = rw (ne-eqb (suc m) 0 (λ q. omega arith), eq-eqb (suc m) N e) refl
+use Rattle.table.specs.WordLaws.{gap-full, gap-last, gen-used, words-below}
 
 -- an order of the corner is that of the table, or 0 at the corner's end
 gap-more : (k N r m : ℕ) → k ≤ N → m ≤ k → gap k r m ≤ gap N r m
@@ -25,8 +17,8 @@ gap-more k N r m h l = go (ℕ-discrete m 0) (ℕ-discrete m k)
   where
     go : Dec (m ≡ 0) → Dec (m ≡ k) → gap k r m ≤ gap N r m
     go (yes e) d = rw e (omega arith)
-    go (no n) (yes e) = rw (at-end k r m e) (omega arith)
-    go (no n) (no e) = rw (inside k r m (omega arith) (omega arith), inside N r m (omega arith) (omega arith)) (omega arith)
+    go (no n) (yes e) = rw (e, gap-last k r) (omega arith)
+    go (no n) (no e) = rw (gap-full k r m n e, gap-full N r m n (λ q. absurd (omega arith))) (omega arith)
 
 -- what is used in a row of the corner is used in the table
 module _ (k N r s i : ℕ) (h : k ≤ N) where
@@ -58,7 +50,8 @@ module _ (P k N : ℕ) (A : Table) (h : k ≤ N) where
       s = A .upper
 
       same : (o m : ℕ) → 0 < m → m < k → gap k o m ≡ gap N o m
-      same o m p l = inside k o m p l ∙ sym (inside N o m p (omega arith))
+      same o m p l = gap-full k o m (λ q. absurd (omega arith)) (λ q. absurd (omega arith))
+          ∙ sym (gap-full N o m (λ q. absurd (omega arith)) (λ q. absurd (omega arith)))
 
   -- a corner of good words has good words
   pub corner-words : firstBad P N A ≡ 0 → firstBad P k A ≡ 0

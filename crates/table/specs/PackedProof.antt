@@ -10,7 +10,7 @@ use borrow.Author.Tests.{leb-true}
 use Rattle.algebra.specs.Generators.{pick}
 use Rattle.field.specs.PrimeTest.{isPrime}
 use Rattle.field.specs.Residue.{val-below, prime-pos}
-use Rattle.table.specs.Limits.{standard}
+use Rattle.table.specs.Limits.{Limits, standard}
 use Rattle.lists.specs.ListLaws.{first-le}
 use Rattle.table.specs.Words.{Table, badRow, firstBad, firstBadPlace, matrixOf}
 use Rattle.table.specs.WordLaws.{bad-le, place-le}
@@ -74,14 +74,15 @@ pub size-is : (limit N : ℕ) → badSize limit N ≡ false → N ≤ limit
 size-is limit N e = leb-true N limit (both-hold (leb 1 N) (leb N limit) e .1)
 
 module _ (P N : ℕ) (A : Table) where
-  pub fits-sizes : (cs : List Check) (v : Reply) → (N ≤ standard .size → AllFit cs) → (NoFault (sizeChecks P N standard A cs) → Fits v) → Fits (answer (sizeChecks P N standard A cs) v)
-  fits-sizes cs v h g = fits-answer (sizeChecks P N standard A cs) v go g
+  pub fits-sizes : (L : Limits) (cs : List Check) (v : Reply) → (N ≤ L .size → AllFit cs) → (NoFault (sizeChecks P N L A cs) → Fits v)
+      → Fits (answer (sizeChecks P N L A cs) v)
+  fits-sizes L cs v h g = fits-answer (sizeChecks P N L A cs) v go g
     where
-      go : (n : ℕ) → FirstFault (sizeChecks P N standard A cs) n → Fits (refusalAt (sizeChecks P N standard A cs) n)
+      go : (n : ℕ) → FirstFault (sizeChecks P N L A cs) n → Fits (refusalAt (sizeChecks P N L A cs) n)
       go zero z = plain 1 0 0 (omega arith) (omega arith) (omega arith)
       go (suc zero) z = plain 2 0 0 (omega arith) (omega arith) (omega arith)
       go (suc (suc zero)) z = plain 3 1 0 (omega arith) (omega arith) (omega arith)
-      go (suc (suc (suc n))) z = h (size-is (standard .size) N (z .1 1 (omega arith))) .at n
+      go (suc (suc (suc n))) z = h (size-is (L .size) N (z .1 1 (omega arith))) .at n
 
   pub short-fits : (b : ℕ) → b < 256 → Fits (refuse 4 b 0)
   short-fits b h = plain 4 b 0 (omega arith) h (omega arith)
@@ -110,12 +111,12 @@ module _ (P N : ℕ) (A : Table) where
 
   sum-fits : (B : Table) (d : List ℕ) → Fits (sumReply P N A B d)
   unfolding sumReply
-  sum-fits B d = fits-sizes _ _ (λ l. fit-cons _ _ (plain 3 2 0 (omega arith) (omega arith) (omega arith)) (fit-cons _ _ (plain 6 0 0 (omega arith) (omega arith) (omega arith))
+  sum-fits B d = fits-sizes standard _ _ (λ l. fit-cons _ _ (plain 3 2 0 (omega arith) (omega arith) (omega arith)) (fit-cons _ _ (plain 6 0 0 (omega arith) (omega arith) (omega arith))
       (fit-cons _ _ f1 (fit-cons _ _ (short-fits 2 (omega arith)) (fit-cons _ _ f5 (fit-cons _ _ (words-fit 1 (omega arith) A l) (fit-cons _ _ (words-fit 2 (omega arith) B l) fit-nil))))))) (λ z. zero-fits)
 
   product-fits : (B : Table) (d : List ℕ) → Fits (productReply P N A B d)
   unfolding productReply
-  product-fits B d = fits-sizes _ _ (λ l. fit-cons _ _ (plain 3 2 0 (omega arith) (omega arith) (omega arith)) (fit-cons _ _ (plain 6 0 0 (omega arith) (omega arith) (omega arith))
+  product-fits B d = fits-sizes standard _ _ (λ l. fit-cons _ _ (plain 3 2 0 (omega arith) (omega arith) (omega arith)) (fit-cons _ _ (plain 6 0 0 (omega arith) (omega arith) (omega arith))
       (fit-cons _ _ f1 (fit-cons _ _ (short-fits 2 (omega arith)) (fit-cons _ _ f5 (fit-cons _ _ (words-fit 1 (omega arith) A l) (fit-cons _ _ (words-fit 2 (omega arith) B l) fit-nil))))))) (λ z. zero-fits)
 
   read-fits : (f d : List ℕ) → Fits (readReply f d)
@@ -139,15 +140,15 @@ module _ (P N : ℕ) (A : Table) where
   pub replies : PackedReplies P N A
   unfolding entryReply matrixReply applyReply transposeReply multipleReply solveReply inverseReply writeReply
   replies = record {
-    entry = λ i j. parts _ (fits-sizes _ _ (λ l. fit-cons _ _ (plain 8 0 0 (omega arith) (omega arith) (omega arith)) (fit-cons _ _ f1 (fit-cons _ _ (words-fit 1 (omega arith) A l) fit-nil))) (entry-fits i j));
-    matrix = λ d. parts _ (fits-sizes _ _ (λ l. fit-cons _ _ f1 (fit-cons _ _ f5 (fit-cons _ _ (words-fit 1 (omega arith) A l) fit-nil))) (λ z. zero-fits));
-    apply = λ x d. parts _ (fits-sizes _ _ (λ l. fit-cons _ _ f1 (fit-cons _ _ (short-fits 3 (omega arith)) (fit-cons _ _ f5 (fit-cons _ _ (words-fit 1 (omega arith) A l) (fit-cons _ _ (column-fits x l) fit-nil))))) (λ z. zero-fits));
-    transpose = λ d. parts _ (fits-sizes _ _ (λ l. fit-cons _ _ f1 (fit-cons _ _ f5 (fit-cons _ _ (words-fit 1 (omega arith) A l) fit-nil))) (λ z. zero-fits));
-    multiple = λ c d. parts _ (fits-sizes _ _ (λ l. fit-cons _ _ f1 (fit-cons _ _ f5 (fit-cons _ _ (plain 5 0 0 (omega arith) (omega arith) (omega arith)) (fit-cons _ _ (words-fit 1 (omega arith) A l) fit-nil)))) (λ z. zero-fits));
+    entry = λ i j. parts _ (fits-sizes standard _ _ (λ l. fit-cons _ _ (plain 8 0 0 (omega arith) (omega arith) (omega arith)) (fit-cons _ _ f1 (fit-cons _ _ (words-fit 1 (omega arith) A l) fit-nil))) (entry-fits i j));
+    matrix = λ d. parts _ (fits-sizes standard _ _ (λ l. fit-cons _ _ f1 (fit-cons _ _ f5 (fit-cons _ _ (words-fit 1 (omega arith) A l) fit-nil))) (λ z. zero-fits));
+    apply = λ x d. parts _ (fits-sizes standard _ _ (λ l. fit-cons _ _ f1 (fit-cons _ _ (short-fits 3 (omega arith)) (fit-cons _ _ f5 (fit-cons _ _ (words-fit 1 (omega arith) A l) (fit-cons _ _ (column-fits x l) fit-nil))))) (λ z. zero-fits));
+    transpose = λ d. parts _ (fits-sizes standard _ _ (λ l. fit-cons _ _ f1 (fit-cons _ _ f5 (fit-cons _ _ (words-fit 1 (omega arith) A l) fit-nil))) (λ z. zero-fits));
+    multiple = λ c d. parts _ (fits-sizes standard _ _ (λ l. fit-cons _ _ f1 (fit-cons _ _ f5 (fit-cons _ _ (plain 5 0 0 (omega arith) (omega arith) (omega arith)) (fit-cons _ _ (words-fit 1 (omega arith) A l) fit-nil)))) (λ z. zero-fits));
     sum = λ B d. parts _ (sum-fits B d);
     product = λ B d. parts _ (product-fits B d);
-    solve = λ x v d. parts _ (fits-sizes _ _ (λ l. fit-cons _ _ f1 (fit-cons _ _ (short-fits 3 (omega arith)) (fit-cons _ _ (short-fits 4 (omega arith)) (fit-cons _ _ f5 (fit-cons _ _ (words-fit 1 (omega arith) A l) (fit-cons _ _ (column-fits x l) (fit-cons _ _ (pivot-fits l) fit-nil))))))) (λ z. zero-fits));
-    inverse = λ d. parts _ (fits-sizes _ _ (λ l. fit-cons _ _ f1 (fit-cons _ _ f5 (fit-cons _ _ (words-fit 1 (omega arith) A l) (fit-cons _ _ (pivot-fits l) fit-nil)))) (λ z. zero-fits));
-    write = λ f. parts _ (fits-sizes _ _ (λ l. fit-cons _ _ f1 (fit-cons _ _ (short-fits 6 (omega arith)) (fit-cons _ _ (words-fit 1 (omega arith) A l) fit-nil))) (λ z. zero-fits));
+    solve = λ x v d. parts _ (fits-sizes standard _ _ (λ l. fit-cons _ _ f1 (fit-cons _ _ (short-fits 3 (omega arith)) (fit-cons _ _ (short-fits 4 (omega arith)) (fit-cons _ _ f5 (fit-cons _ _ (words-fit 1 (omega arith) A l) (fit-cons _ _ (column-fits x l) (fit-cons _ _ (pivot-fits l) fit-nil))))))) (λ z. zero-fits));
+    inverse = λ d. parts _ (fits-sizes standard _ _ (λ l. fit-cons _ _ f1 (fit-cons _ _ f5 (fit-cons _ _ (words-fit 1 (omega arith) A l) (fit-cons _ _ (pivot-fits l) fit-nil)))) (λ z. zero-fits));
+    write = λ f. parts _ (fits-sizes standard _ _ (λ l. fit-cons _ _ f1 (fit-cons _ _ (short-fits 6 (omega arith)) (fit-cons _ _ (words-fit 1 (omega arith) A l) fit-nil))) (λ z. zero-fits));
     read = λ f d. parts _ (read-fits f d);
   }

@@ -7,7 +7,7 @@ ghost use Rattle.lists.specs.Lists.{some};
 ghost use Rattle.table.specs.Words.{table, width, place, badRow, firstBad, firstBadPlace};
 
 // Whether one of n words of t from `at` on is p or more. Every word is looked at.
-fn bad_words(p: u32, t: &[u32], at: usize, n: usize) -> bool
+pub fn bad_words(p: u32, t: &[u32], at: usize, n: usize) -> bool
     requires { ⌜ at + n ≤ length (now t) ⌝ }
     ensures { λ b. ⌜ b ≡ some n (λ e. leb p (getD (now (t .entry)) (at + e) 0)) ⌝ }
 {

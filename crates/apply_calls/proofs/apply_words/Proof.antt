@@ -5,6 +5,7 @@ use mathlib.Core.Path.{_≡_, refl}
 use Prim.Native.Nat.{ℕ}
 use denote.Ref.{now}
 use Rattle.table.specs.Words.{width}
+use Rattle.block.specs.Block.{Within}
 use Rattle.sweeps.specs.Halves.{lowerHalf, upperHalf}
 use Rattle.sweeps.specs.Reads.{lower-down, upper-up, lower-sizes, upper-sizes}
 use Rattle.apply_calls.specs.ApplyLaws.{downList, upList, applied, swept-reads, down-asks, up-asks, down-leaves, up-leaves}
@@ -36,6 +37,11 @@ up-swept c = let d = down-of c in let a = start d .args in let w = d .before .be
     up-leaves (a .m .p) (a .n) (a .r) (a .s) (now (a .table)) (now (a .column)) (upperHalf (a .r) (a .s)) (a .m .p) (a .m .reciprocal)
     (w .row-width .result) (h .upper .result) refl (w .row-width .ensures) (h .upper .ensures) (down d) (up c) (c .sweep-up .ensures)
 
+-- what the sweep down leaves may be read
+left-reads : (c : tie.After-sweep-down) → Within (start c .args .m .p) (down c) 0 (start c .args .n)
+left-reads c = let a = start c .args in let p = start c .pre in
+    swept-reads (a .m .p) (a .n) (now (a .result)) _ (down c) (down-swept c) (p .0 .pos) (p .3)
+
 sweep-down-requires : tie.Need-sweep-down-requires
 sweep-down-requires c κs =
     let h = c .before in
@@ -56,7 +62,7 @@ sweep-up-requires c κs =
     let p = start d .pre in
     up-asks (a .m .p) (a .n) (a .r) (a .s) (now (a .table)) (now (a .column)) (upperHalf (a .r) (a .s)) (a .m .p) (a .m .reciprocal)
     (w .row-width .result) (h .upper .result) refl (w .row-width .ensures) (h .upper .ensures)
-    (p .1) (p .0) (upper-sizes _ _ (p .1 .lower) (p .1 .upper)) (p .2) (down d) (swept-reads (a .m .p) (a .n) (now (a .result)) _ (down d) (down-swept d) (p .0 .pos) (p .3)) (upper-up _ _ _ _ _ (p .1))
+    (p .1) (p .0) (upper-sizes _ _ (p .1 .lower) (p .1 .upper)) (p .2) (down d) (left-reads d) (upper-up _ _ _ _ _ (p .1))
 
 returns : tie.Need-returns
 returns c = let u = c .before .before in let d = down-of u in let a = start d .args in

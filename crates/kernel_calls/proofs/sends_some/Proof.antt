@@ -10,7 +10,7 @@ use Rattle.kernel_calls.proofs.sends_some.Tie as tie
 
 returns : tie.Need-returns
 returns c = let a = c .before .before .before .before .before .before .before .args in
-    c .some-left .ensures
+    c .bad-words .ensures
     ∙ sent-some (a .m .p) (a .n) (table (a .r) (a .s) (now (a .table))) (now (a .column)) (replicate 1024 0) (c .before .before .before .apply-words .ensures)
 
 pub sends-some-spec : {M : Type 1} → statement M
