@@ -31,7 +31,7 @@ use Rattle.table.specs.AcceptsProof.{causes as badCauses}
 use Rattle.table.specs.PackedProof.{Fits, fit-nil, fit-cons, parts, plain, fits-sizes, short-fits, words-fit, column-fits}
 use Rattle.kernels.specs.KernelCall.{kernelW, shows, kernelReply, kernelAfter, showsChecks, showsReply}
 use Rattle.kernels.specs.KernelPromises.{SentToZeros, Shows, GoodLoan, GoodQuestion, ShowsCauses, CheckPromises, KernelPasses, KernelUnused, Promises}
-use Rattle.kernels.specs.KernelProof.{swept, kernel}
+use Rattle.kernels.specs.KernelProof.{swept, table-good, kernel}
 
 value-of : {w r : Reply} → w ≡ r → w .value ≡ r .value
 value-of = ap (λ (w : Reply). w .value)
@@ -65,15 +65,8 @@ module _ (P N : ℕ) (A : Table) (k : ℕ) (x : List ℕ) where
   pub clear-good : NoFault (showsChecks P N A k x) → GoodQuestion P N A k x
   clear-good z =
       let c = causes in
-      let p = c .prime .0 (z 0) in
-      let n = c .size .0 (z 1) in
-      let i = c .place .0 (z 3) in (
-        (p .0, p .1, n .0, n .1),
-        (c .orders .0 (z 2), c .table-long .0 (z 4), c .table-below .0 (z 6)),
-        (c .column-long .0 (z 5), c .column-below .0 (z 7)),
-        i .0,
-        i .1,
-      )
+      let g = table-good P N A (z 0) (z 1) (z 2) (z 4) (z 6) in
+      let i = c .place .0 (z 3) in (g .0, g .1, (c .column-long .0 (z 5), c .column-below .0 (z 7)), i .0, i .1)
 
   good-clear : GoodQuestion P N A k x → AllClear (showsChecks P N A k x)
   good-clear g =

@@ -5,7 +5,7 @@ use mathlib.Core.Logic.{_≢_, _↔_}
 use mathlib.Core.Path.{_≡_, refl, sym, ap, ap₂, _∙_}
 use Prim.Native.Nat.{ℕ, zero, suc, _+_, _-_, _<_, _≤_}
 use native.Mathlib.Omega.{arith}
-use lib.Dec.{eqb}
+use lib.Dec.{ltb, eqb}
 use lib.ListN.{length, getD, drop}
 use lib.Seq.{drop-drop}
 use borrow.Author.Tests.{eq-eqb, ne-eqb, eqb-false}
@@ -23,7 +23,7 @@ use Rattle.table.specs.Limits.{standard}
 use Rattle.table.specs.Words.{Table, gap, gens, matrixOf, firstBad, SameColumn}
 use Rattle.table.specs.WordLaws.{words-below}
 use Rattle.table.specs.Results.{column, columnWords, firstZero}
-use Rattle.table.specs.Replies.{Reply, Check, Accepted, NoFault, causeAt, check, accept, refuse, answer, short}
+use Rattle.table.specs.Replies.{Reply, Check, Accepted, NoFault, causeAt, check, accept, refuse, answer, badPrime, badSize, badOrder, short}
 use Rattle.table.specs.Calls.{tableLength, solveEarlier, solveReply, inverseEarlier, inverseReply, checkPivots}
 use Rattle.table.specs.CallLaws.{AllClear, lacks, number-is, none-gave, all-clear, value-is, kept, surplus, after-is, after-length, answer-append, open-checks, none-row}
 use Rattle.table.specs.SingularRow.{least-singular, singular-first, regular-none, none-regular}
@@ -93,26 +93,21 @@ module _ (P N : ℕ) (A : Table) where
 
   some-row : Prime P → (eqb zero-row 0 ≡ false) ↔ ((k : ℕ) × ZeroPivotAt P N A k)
   some-row prime = (
-    (λ e. (zero-row, least-singular P N A prime zero-row refl (positive zero-row (eqb-false zero-row 0 e)))),
+    (λ e. (zero-row, least-singular P N A prime zero-row refl (omega (arith, eqb-false zero-row 0 e)))),
     λ z. ne-eqb zero-row 0 (λ e. absurd (omega (arith, singular-first P N A prime (z .0) (z .1), z .1 .from))),
   )
-    where
-      positive : (n : ℕ) → (n ≡ 0 → ⊥) → 0 < n
-      positive zero n = absurd (n refl)
-      positive (suc m) n = omega arith
 
   -- the numbers and the table are good where these checks find nothing wrong
-  table-good : (cs : List Check) → NoFault cs → causeAt cs 0 ≡ causeAt (kernelEarlier P N A []) 0 → causeAt cs 1 ≡ causeAt (kernelEarlier P N A []) 1
-      → causeAt cs 2 ≡ causeAt (kernelEarlier P N A []) 2 → causeAt cs 3 ≡ causeAt (kernelEarlier P N A []) 3
-      → (j : ℕ) → causeAt cs j ≡ causeAt (kernelEarlier P N A []) 5 → GoodNumbers P N × GoodTable P N A
-  table-good cs z a b c e j f =
-      let p = badCauses .prime 2147483647 P .0 (sym a ∙ z 0) in
-      let n = badCauses .size 1024 N .0 (sym b ∙ z 1) in (
+  pub table-good : badPrime 2147483647 P ≡ false → badSize 1024 N ≡ false → badOrder 8 (A .lower) (A .upper) ≡ false
+      → short (A .words) (tableLength N A) ≡ false → ltb 0 (firstBad P N A) ≡ false → GoodNumbers P N × GoodTable P N A
+  table-good prime size orders long words =
+      let p = badCauses .prime 2147483647 P .0 prime in
+      let n = badCauses .size 1024 N .0 size in (
         (p .0, p .1, n .0, n .1),
         (
-          badCauses .order 8 (A .lower) (A .upper) .0 (sym c ∙ z 2),
-          badCauses .short (A .words) (tableLength N A) .0 (sym e ∙ z 3),
-          words-below P N A .0 (none-row (firstBad P N A) .0 (sym f ∙ z j)),
+          badCauses .order 8 (A .lower) (A .upper) .0 orders,
+          badCauses .short (A .words) (tableLength N A) .0 long,
+          words-below P N A .0 (none-row (firstBad P N A) .0 words),
         ),
       )
 
@@ -128,10 +123,10 @@ module _ (P N : ℕ) (A : Table) where
       (number-is (sym (answer-append (inverseEarlier P N A c) (checkPivots P N A ∷ []) (accept 0)) ∙ e))
 
   solve-good : (x v c : List ℕ) → NoFault (solveEarlier P N A x v c) → GoodNumbers P N × GoodTable P N A
-  solve-good x v c z = table-good (solveEarlier P N A x v c) z refl refl refl refl 7 refl
+  solve-good x v c z = table-good (z 0) (z 1) (z 2) (z 3) (z 7)
 
   inverse-good : (c : List ℕ) → NoFault (inverseEarlier P N A c) → GoodNumbers P N × GoodTable P N A
-  inverse-good c z = table-good (inverseEarlier P N A c) z refl refl refl refl 5 refl
+  inverse-good c z = table-good (z 0) (z 1) (z 2) (z 3) (z 5)
 
   -- ---- The call, with the lent result d.
   module _ (d : List ℕ) where
@@ -153,7 +148,7 @@ module _ (P N : ℕ) (A : Table) where
     }
 
     pub earlier-good : NoFault earlier → GoodLoan P N A d
-    earlier-good z = let g = table-good earlier z refl refl refl refl 5 refl in (g .0, g .1, causes .result-long .0 (z 4))
+    earlier-good z = let g = table-good (z 0) (z 1) (z 2) (z 3) (z 5) in (g .0, g .1, causes .result-long .0 (z 4))
 
     good-earlier : GoodLoan P N A d → NoFault earlier
     good-earlier g =
