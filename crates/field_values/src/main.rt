@@ -1,7 +1,7 @@
 // Runs the field's functions on numbers whose answers are known from elsewhere, and prints what they give.
 use libc::STDOUT_FILENO;
 ghost use Prim.Native.Nat.{_<_};
-ghost use Rattle.field.specs.Fit.{Fit};
+ghost use Rattle.field.specs.Ready.{Ready};
 
 // Small numbers, Carmichael numbers, a strong pseudoprime, squares of large primes of each residue prime to 30, products of two primes, and numbers up to 2^31 - 1.
 const NUMBERS: [u32; 47] = [
@@ -118,7 +118,7 @@ fn show_prime(n: u32) {
 
 // -a, 1 - a and 1 + a; then 1 and one to four times the square of a.
 fn show_sums(m: field::Modulus, a: u32)
-    requires { ⌜ Fit (m .p) (m .reciprocal) × (1 < m .p) × (a < m .p) ⌝ }
+    requires { ⌜ Ready m × (1 < m .p) × (a < m .p) ⌝ }
 {
     print(field::neg(m, a));
     print(field::sub(m, 1, a));

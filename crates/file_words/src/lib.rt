@@ -5,6 +5,7 @@ ghost use Prim.Native.Nat.{ℕ, _+_, _*_, _<_, _≤_};
 ghost use lib.ListN.{length, getD, drop};
 ghost use Rattle.algebra.specs.Generators.{pick};
 ghost use Rattle.lists.specs.Lists.{tabulate, putAt};
+ghost use Rattle.lists.specs.Index.{farthest};
 ghost use Rattle.table.specs.RowFile.{fileWord, byteOf, bytesOf};
 
 // A byte as a word.
@@ -38,7 +39,7 @@ pub fn put_word(out: &mut [u8], at: usize, w: u32)
 
 // n words of f from word `from` on, where they are used, else zeros, to out from `at` on.
 pub fn read_words(used: bool, out: &mut [u32], at: usize, n: usize, f: &[u8], from: usize)
-    requires { ⌜ (n ≤ 4096) × (from ≤ 4096) × (at + n ≤ length (now out)) × (4 * (from + n) ≤ length (now f)) ⌝ }
+    requires { ⌜ (n ≤ farthest) × (from ≤ farthest) × (at + n ≤ length (now out)) × (4 * (from + n) ≤ length (now f)) ⌝ }
     ensures { λ _. ⌜ now (out .exit) ≡ putAt at n (λ j. pick used (fileWord (now (f .entry)) (from + j)) 0) (now (out .entry)) ⌝ }
 {
     let mut j = 0;
@@ -50,7 +51,7 @@ pub fn read_words(used: bool, out: &mut [u32], at: usize, n: usize, f: &[u8], fr
 
 // n words of t from `from` on, where they are used, else zeros, to out from word `at` on.
 pub fn write_words(used: bool, out: &mut [u8], at: usize, n: usize, t: &[u32], from: usize)
-    requires { ⌜ (n ≤ 4096) × (at ≤ 1048576) × (4 * (at + n) ≤ length (now out)) × (from + n ≤ length (now t)) ⌝ }
+    requires { ⌜ (n ≤ farthest) × (at ≤ farthest) × (4 * (at + n) ≤ length (now out)) × (from + n ≤ length (now t)) ⌝ }
     ensures { λ _. ⌜ ((pre d : List ℕ) → length pre ≡ 4 * at → now (out .entry) ≡ pre ++ drop (4 * at) d
         → now (out .exit) ≡ (pre ++ bytesOf (tabulate n (λ j. pick used (getD (now (t .entry)) (from + j) 0) 0))) ++ drop (4 * (at + n)) d) ⌝ }
 {

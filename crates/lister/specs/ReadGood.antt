@@ -11,7 +11,7 @@ use Rattle.table.specs.Calls.{readReply, readAfter, readT}
 use Rattle.table.specs.AcceptsProof.{read-accepts}
 use Rattle.table.specs.FileLaws.{reads-file}
 use Rattle.table.specs.UndertakingsProof.{lengths, values}
-use Rattle.checks.specs.Passed.{Good}
+use Rattle.check_numbers.specs.Passed.{Good}
 
 module _ (f d : List ℕ) (number buffer row value : ℕ) (answered : reply number buffer row value ≡ readReply f d) (none : number ≡ 0) where
   accepted : Accepted (readReply f d)

@@ -1,14 +1,14 @@
 // Lists a row file that it reads from standard input: its prime, size and orders, its matrix, and the row of the first zero pivot if there is one.
 // Each line is worked out by a proved function of crate `listing`; here they are written, one after the other.
-use checks::Reply;
+use check_numbers::Reply;
 use field::Modulus;
 use libc::STDIN_FILENO;
 use libc::STDOUT_FILENO;
 ghost use Prim.Native.Nat.{_≤_};
 ghost use lib.ListN.{length};
-ghost use Rattle.field.specs.Fit.{Fit};
+ghost use Rattle.field.specs.Ready.{Ready};
 ghost use Rattle.table.specs.Words.{table as tab};
-ghost use Rattle.checks.specs.Passed.{Good};
+ghost use Rattle.check_numbers.specs.Passed.{Good};
 
 // The first n bytes of a line.
 fn show(line: &[u8], n: usize)
@@ -25,13 +25,13 @@ fn show_refusal(y: Reply) {
 
 // The matrix, row by row.
 fn show_rows(m: Modulus, n: usize, r: usize, s: usize, table: &[u32])
-    requires { ⌜ Fit (m .p) (m .reciprocal) × Good (m .p) n (tab r s (now table)) ⌝ }
+    requires { ⌜ Ready m × Good (m .p) n (tab r s (now table)) ⌝ }
 {
     let mut row = [0u32; 1024];
     let mut line = [0u8; 11265];
     let mut i = 0;
     while i < n {
-        entry_calls::matrix_row(m, n, r, s, table, i, &mut row[..n]);
+        call_entry::matrix_row(m, n, r, s, table, i, &mut row[..n]);
         let end = listing::row_line(&mut line, &row, n);
         show(&line, end);
         i += 1;
@@ -48,7 +48,7 @@ fn show_table(p: u32, n: u32, r: u32, s: u32, table: &[u32])
     show(&line, head);
     show_rows(m, n as usize, r as usize, s as usize, table);
     let mut inverses = [0u32; 1024];
-    let zero = pivots::first_zero(m, n as usize, r as usize, s as usize, table, &mut inverses);
+    let zero = row_pivot::first_zero(m, n as usize, r as usize, s as usize, table, &mut inverses);
     let last = listing::last_line(&mut line, zero as u32);
     show(&line, last);
 }
@@ -56,11 +56,11 @@ fn show_table(p: u32, n: u32, r: u32, s: u32, table: &[u32])
 // The listing of a file: at most 41,492 bytes, whose table has at most 10,368 words.
 fn list(file: &[u8]) {
     if 41492 < file.len() {
-        show_refusal(checks::refuse(9, 6, 0));
+        show_refusal(check_numbers::refuse(9, 6, 0));
         return;
     }
     let mut table = [0u32; 10368];
-    let y = rowfile::read(file, &mut table);
+    let y = call_file::read(file, &mut table);
     if y.number != 0 {
         show_refusal(y);
         return;

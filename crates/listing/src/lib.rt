@@ -6,6 +6,7 @@ ghost use lib.ListN.{length};
 ghost use Rattle.algebra.specs.Generators.{pick};
 ghost use Rattle.table.specs.Replies.{refuse};
 ghost use Rattle.table.specs.Lister.{text, decimal, refusal};
+ghost use Rattle.table.specs.Limits.{mostSize};
 ghost use Rattle.listing.specs.Lines.{Puts, headLine, rowLine, lastLine};
 
 // The bytes t.
@@ -71,7 +72,7 @@ fn put_word(out: &mut [u8], at: usize, j: usize, x: u32) -> usize
 
 // A row of the matrix: its words with blanks between.
 pub fn row_line(out: &mut [u8], row: &[u32], n: usize) -> usize
-    requires { ⌜ (n ≤ 1024) × (n ≤ length (now row)) × (11 * n + 1 ≤ length (now out)) ⌝ }
+    requires { ⌜ (n ≤ mostSize) × (n ≤ length (now row)) × (11 * n + 1 ≤ length (now out)) ⌝ }
     ensures { λ v. ⌜ Puts 0 (rowLine n (now (row .entry))) (now (out .entry)) (now (out .exit)) v × (v ≤ 11 * n + 1) ⌝ }
 {
     let mut at = 0;

@@ -1,3 +1,4 @@
+pub mod Index
 pub mod Lists
 pub mod ListLaws
 pub mod Writing

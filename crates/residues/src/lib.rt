@@ -2,9 +2,9 @@
 ghost use mathlib.Core.Path.{_≡_};
 ghost use Rattle.table.specs.Words.{table as tab};
 ghost use Rattle.table.specs.Replies.{packed};
-ghost use Rattle.dense.specs.DenseCall.{denseReply, denseAfter, squareAfter};
-ghost use Rattle.kernels.specs.KernelCall.{kernelReply, kernelAfter, showsReply};
-ghost use Rattle.fraction_calls.specs.FractionCall.{fractionsReply, numeratorsAfter, denominatorsAfter};
+ghost use Rattle.table_dense.specs.DenseCall.{denseReply, denseAfter, squareAfter};
+ghost use Rattle.table_kernel.specs.KernelCall.{kernelReply, kernelAfter, showsReply};
+ghost use Rattle.call_fractions.specs.FractionCall.{fractionsReply, numeratorsAfter, denominatorsAfter};
 ghost use Rattle.table.specs.Calls.{entryReply, matrixReply, matrixAfter, applyReply, applyAfter, applyTransposedAfter, transposeReply, transposeAfter, multipleReply, multipleAfter, sumReply, sumAfter, productReply, productAfter, solveReply, solveAfter, workAfter, inverseReply, inverseAfter, readReply, readAfter, writeReply, writeAfter};
 
 #[no_mangle]
@@ -19,7 +19,7 @@ pub extern "C" fn residues_entry(
 ) -> u64
     ensures { λ v. ⌜ v ≡ packed (entryReply p n (tab r s (now (table .entry))) i j) ⌝ }
 {
-    checks::pack(entry_calls::entry(p, n, r, s, i, j, table))
+    check_numbers::pack(call_entry::entry(p, n, r, s, i, j, table))
 }
 
 #[no_mangle]
@@ -34,7 +34,7 @@ pub extern "C" fn residues_matrix(
     ensures { λ v. ⌜ v ≡ packed (matrixReply p n (tab r s (now (table .entry))) (now (result .entry))) ⌝ }
     ensures { λ v. ⌜ now (result .exit) ≡ matrixAfter p n (tab r s (now (table .entry))) (now (result .entry)) ⌝ }
 {
-    checks::pack(entry_calls::matrix(p, n, r, s, table, result))
+    check_numbers::pack(call_entry::matrix(p, n, r, s, table, result))
 }
 
 #[no_mangle]
@@ -50,7 +50,7 @@ pub extern "C" fn residues_apply(
     ensures { λ v. ⌜ v ≡ packed (applyReply p n (tab r s (now (table .entry))) (now (column .entry)) (now (result .entry))) ⌝ }
     ensures { λ v. ⌜ now (result .exit) ≡ applyAfter p n (tab r s (now (table .entry))) (now (column .entry)) (now (result .entry)) ⌝ }
 {
-    checks::pack(apply_calls::apply(p, n, r, s, table, column, result))
+    check_numbers::pack(call_apply::apply(p, n, r, s, table, column, result))
 }
 
 #[no_mangle]
@@ -66,7 +66,7 @@ pub extern "C" fn residues_apply_transpose(
     ensures { λ v. ⌜ v ≡ packed (applyReply p n (tab r s (now (table .entry))) (now (column .entry)) (now (result .entry))) ⌝ }
     ensures { λ v. ⌜ now (result .exit) ≡ applyTransposedAfter p n (tab r s (now (table .entry))) (now (column .entry)) (now (result .entry)) ⌝ }
 {
-    checks::pack(apply_calls::apply_transpose(p, n, r, s, table, column, result))
+    check_numbers::pack(call_apply::apply_transpose(p, n, r, s, table, column, result))
 }
 
 #[no_mangle]
@@ -81,7 +81,7 @@ pub extern "C" fn residues_transpose(
     ensures { λ v. ⌜ v ≡ packed (transposeReply p n (tab r s (now (table .entry))) (now (result .entry))) ⌝ }
     ensures { λ v. ⌜ now (result .exit) ≡ transposeAfter p n (tab r s (now (table .entry))) (now (result .entry)) ⌝ }
 {
-    checks::pack(calls::transpose(p, n, r, s, table, result))
+    check_numbers::pack(call_transpose::transpose(p, n, r, s, table, result))
 }
 
 #[no_mangle]
@@ -97,7 +97,7 @@ pub extern "C" fn residues_multiple(
     ensures { λ v. ⌜ v ≡ packed (multipleReply p n (tab r s (now (table .entry))) c (now (result .entry))) ⌝ }
     ensures { λ v. ⌜ now (result .exit) ≡ multipleAfter p n (tab r s (now (table .entry))) c (now (result .entry)) ⌝ }
 {
-    checks::pack(calls::multiple(p, n, r, s, c, table, result))
+    check_numbers::pack(call_transpose::multiple(p, n, r, s, c, table, result))
 }
 
 #[no_mangle]
@@ -115,7 +115,7 @@ pub extern "C" fn residues_sum(
     ensures { λ v. ⌜ v ≡ packed (sumReply p n (tab r1 s1 (now (first .entry))) (tab r2 s2 (now (second .entry))) (now (result .entry))) ⌝ }
     ensures { λ v. ⌜ now (result .exit) ≡ sumAfter p n (tab r1 s1 (now (first .entry))) (tab r2 s2 (now (second .entry))) (now (result .entry)) ⌝ }
 {
-    checks::pack(joins::sum(p, n, r1, s1, r2, s2, first, second, result))
+    check_numbers::pack(call_pair::sum(p, n, r1, s1, r2, s2, first, second, result))
 }
 
 #[no_mangle]
@@ -133,7 +133,7 @@ pub extern "C" fn residues_product(
     ensures { λ v. ⌜ v ≡ packed (productReply p n (tab r1 s1 (now (first .entry))) (tab r2 s2 (now (second .entry))) (now (result .entry))) ⌝ }
     ensures { λ v. ⌜ now (result .exit) ≡ productAfter p n (tab r1 s1 (now (first .entry))) (tab r2 s2 (now (second .entry))) (now (result .entry)) ⌝ }
 {
-    checks::pack(joins::product(p, n, r1, s1, r2, s2, first, second, result))
+    check_numbers::pack(call_pair::product(p, n, r1, s1, r2, s2, first, second, result))
 }
 
 #[no_mangle]
@@ -151,7 +151,7 @@ pub extern "C" fn residues_solve(
     ensures { λ v. ⌜ now (work .exit) ≡ workAfter p n (tab r s (now (table .entry))) (now (column .entry)) (now (work .entry)) (now (result .entry)) ⌝ }
     ensures { λ v. ⌜ now (result .exit) ≡ solveAfter p n (tab r s (now (table .entry))) (now (column .entry)) (now (work .entry)) (now (result .entry)) ⌝ }
 {
-    checks::pack(solutions::solve(p, n, r, s, table, column, work, result))
+    check_numbers::pack(call_solve::solve(p, n, r, s, table, column, work, result))
 }
 
 #[no_mangle]
@@ -169,7 +169,7 @@ pub extern "C" fn residues_solve_dense(
     ensures { λ v. ⌜ now (square .exit) ≡ squareAfter p n (tab r s (now (table .entry))) (now (column .entry)) (now (square .entry)) (now (result .entry)) ⌝ }
     ensures { λ v. ⌜ now (result .exit) ≡ denseAfter p n (tab r s (now (table .entry))) (now (column .entry)) (now (square .entry)) (now (result .entry)) ⌝ }
 {
-    checks::pack(dense_calls::solve_dense(p, n, r, s, table, column, square, result))
+    check_numbers::pack(call_dense::solve_dense(p, n, r, s, table, column, square, result))
 }
 
 #[no_mangle]
@@ -184,7 +184,7 @@ pub extern "C" fn residues_inverse(
     ensures { λ v. ⌜ v ≡ packed (inverseReply p n (tab r s (now (table .entry))) (now (result .entry))) ⌝ }
     ensures { λ v. ⌜ now (result .exit) ≡ inverseAfter p n (tab r s (now (table .entry))) (now (result .entry)) ⌝ }
 {
-    checks::pack(solutions::inverse(p, n, r, s, table, result))
+    check_numbers::pack(call_solve::inverse(p, n, r, s, table, result))
 }
 
 #[no_mangle]
@@ -199,7 +199,7 @@ pub extern "C" fn residues_kernel(
     ensures { λ v. ⌜ v ≡ packed (kernelReply p n (tab r s (now (table .entry))) (now (result .entry))) ⌝ }
     ensures { λ v. ⌜ now (result .exit) ≡ kernelAfter p n (tab r s (now (table .entry))) (now (result .entry)) ⌝ }
 {
-    checks::pack(kernel_calls::kernel(p, n, r, s, table, result))
+    check_numbers::pack(call_kernel::kernel(p, n, r, s, table, result))
 }
 
 #[no_mangle]
@@ -214,7 +214,7 @@ pub extern "C" fn residues_kernel_check(
 ) -> u64
     ensures { λ v. ⌜ v ≡ packed (showsReply p n (tab r s (now (table .entry))) k (now (column .entry))) ⌝ }
 {
-    checks::pack(kernel_calls::kernel_check(p, n, r, s, k, table, column))
+    check_numbers::pack(call_kernel::kernel_check(p, n, r, s, k, table, column))
 }
 
 #[no_mangle]
@@ -222,7 +222,7 @@ pub extern "C" fn residues_read_file(file: &[u8], result: &mut [u32]) -> u64
     ensures { λ v. ⌜ v ≡ packed (readReply (now (file .entry)) (now (result .entry))) ⌝ }
     ensures { λ v. ⌜ now (result .exit) ≡ readAfter (now (file .entry)) (now (result .entry)) ⌝ }
 {
-    checks::pack(rowfile::read(file, result))
+    check_numbers::pack(call_file::read(file, result))
 }
 
 #[no_mangle]
@@ -237,7 +237,7 @@ pub extern "C" fn residues_write_file(
     ensures { λ v. ⌜ v ≡ packed (writeReply p n (tab r s (now (table .entry))) (now (file .entry))) ⌝ }
     ensures { λ v. ⌜ now (file .exit) ≡ writeAfter p n (tab r s (now (table .entry))) (now (file .entry)) ⌝ }
 {
-    checks::pack(rowfile::write(p, n, r, s, table, file))
+    check_numbers::pack(call_file::write(p, n, r, s, table, file))
 }
 
 #[no_mangle]
@@ -254,5 +254,5 @@ pub extern "C" fn residues_fractions(
     ensures { λ v. ⌜ now (numerators .exit) ≡ numeratorsAfter p q n (now (first .entry)) (now (second .entry)) (now (numerators .entry)) (now (denominators .entry)) ⌝ }
     ensures { λ v. ⌜ now (denominators .exit) ≡ denominatorsAfter p q n (now (first .entry)) (now (second .entry)) (now (numerators .entry)) (now (denominators .entry)) ⌝ }
 {
-    checks::pack(fraction_calls::fractions(p, q, n, first, second, numerators, denominators))
+    check_numbers::pack(call_fractions::fractions(p, q, n, first, second, numerators, denominators))
 }

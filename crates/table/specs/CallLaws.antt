@@ -1,9 +1,9 @@
 -- The laws of the refusal table, and what stands in a buffer after a call.
 use mathlib.Core.Bool.{Bool, true, false, not, _&&_}
 use mathlib.Core.Logic.{_≢_, _↔_}
-use mathlib.Core.Path.{_≡_, refl, sym, ap, _∙_}
+use mathlib.Core.Path.{_≡_, refl, sym, ap, ap₂, _∙_}
 use mathlib.Core.List.{List, [], _∷_, _++_}
-use Prim.Native.Nat.{ℕ, zero, suc, _<_, _≤_}
+use Prim.Native.Nat.{ℕ, zero, suc, _+_, _<_, _≤_}
 use native.Mathlib.Omega.{arith}
 use native.Mathlib.Nat.{le-of-suc-le-suc}
 use lib.Dec.{leb, eqb, ltb}
@@ -146,3 +146,14 @@ after-length y ys d h = go (eqb (y .number) 0) refl
         eqb-zero zero q = refl
         eqb-zero (suc n) q = clash (sym q ∙ ne-eqb (suc n) 0 (λ z. omega arith))
     go false e = refl
+
+-- after a refusal the buffer is as it was; after an accepted call the n words ys stand at its start
+pub refused-leaves : (y : Reply) (ys d : List ℕ) → y .number ≢ 0 → d ≡ after y ys d
+refused-leaves y ys d n = sym (kept y ys d n)
+
+pub accepted-leaves : (y : Reply) (ys d out : List ℕ) (n : ℕ) → Accepted y → length ys ≡ n → out ≡ ys ++ drop n d → out ≡ after y ys d
+accepted-leaves y ys d out n ok l e = e ∙ sym (rw (eq-eqb (y .number) 0 ok, l))
+
+-- a buffer keeps its length when n words are written at its start
+pub written-length : (ys d out : List ℕ) (n : ℕ) → length ys ≡ n → n ≤ length d → out ≡ ys ++ drop n d → length out ≡ length d
+written-length ys d out n l h e = ap length e ∙ length-append ys (drop n d) ∙ ap₂ _+_ l (length-drop n d) ∙ omega arith

@@ -18,7 +18,7 @@ gap-more k N r m h l = go (ℕ-discrete m 0) (ℕ-discrete m k)
     go : Dec (m ≡ 0) → Dec (m ≡ k) → gap k r m ≤ gap N r m
     go (yes e) d = rw e (omega arith)
     go (no n) (yes e) = rw (e, gap-last k r) (omega arith)
-    go (no n) (no e) = rw (gap-full k r m n e, gap-full N r m n (λ q. absurd (omega arith))) (omega arith)
+    go (no n) (no e) = rw (gap-full k r m n (omega arith), gap-full N r m n (omega arith)) (omega arith)
 
 -- what is used in a row of the corner is used in the table
 module _ (k N r s i : ℕ) (h : k ≤ N) where
@@ -50,8 +50,7 @@ module _ (P k N : ℕ) (A : Table) (h : k ≤ N) where
       s = A .upper
 
       same : (o m : ℕ) → 0 < m → m < k → gap k o m ≡ gap N o m
-      same o m p l = gap-full k o m (λ q. absurd (omega arith)) (λ q. absurd (omega arith))
-          ∙ sym (gap-full N o m (λ q. absurd (omega arith)) (λ q. absurd (omega arith)))
+      same o m p l = gap-full k o m (λ q. absurd (omega arith)) (omega arith) ∙ sym (gap-full N o m (λ q. absurd (omega arith)) (omega arith))
 
   -- a corner of good words has good words
   pub corner-words : firstBad P N A ≡ 0 → firstBad P k A ≡ 0

@@ -129,7 +129,7 @@ pub record Refused : Type 0 where
 
 -- "a refusal leaves each lent buffer untouched", and "words past N·w are neither read nor written; the same goes for the surplus of every buffer":
 -- a buffer that held d holds e after the reply y of a call that writes n words. The one exception is the dense solve's square on 7 (M-104):
--- dense/specs/DensePromises.antt.
+-- table_dense/specs/DensePromises.antt.
 abbrev pub Keeps : {X : Type 0} (y : Reply) (n : ℕ) (d e : List X) → Type 0
 Keeps y n d e = (y .number ≢ 0 → e ≡ d) × (drop n e ≡ drop n d)
 

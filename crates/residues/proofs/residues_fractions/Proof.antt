@@ -3,7 +3,7 @@ use borrow.Author.Needs.{needs}
 use mathlib.Core.Path.{ap, _∙_}
 use denote.Ref.{now}
 use Rattle.table.specs.Replies.{packed}
-use Rattle.fraction_calls.specs.FractionPromisesProof.{promises}
+use Rattle.call_fractions.specs.FractionPromisesProof.{promises}
 use Rattle.residues.proofs.residues_fractions.Statement.{statement}
 use Rattle.residues.proofs.residues_fractions.Tie as tie
 

@@ -4,7 +4,7 @@ use mathlib.Core.Path.{ap, _∙_}
 use denote.Ref.{now}
 use Rattle.table.specs.Words.{table}
 use Rattle.table.specs.Replies.{packed}
-use Rattle.kernels.specs.KernelPromisesProof.{promises}
+use Rattle.table_kernel.specs.KernelPromisesProof.{promises}
 use Rattle.residues.proofs.residues_kernel.Statement.{statement}
 use Rattle.residues.proofs.residues_kernel.Tie as tie
 

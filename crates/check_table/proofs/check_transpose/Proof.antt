@@ -1,0 +1,67 @@
+-- `check_table::check_transpose` meets its contract: the checks one after the other.
+use borrow.Author.Needs.{needs}
+use mathlib.Core.Path.{ap, _∙_}
+use Prim.Native.Nat.{ℕ, _*_}
+use native.Mathlib.Nat.{mul-le-mul}
+use native.Mathlib.Omega.{arith}
+use Rattle.table.specs.Words.{table, width, firstBad}
+use Rattle.table.specs.Replies.{reply, answer}
+use Rattle.check_numbers.specs.CheckLaws.{reply-is}
+use Rattle.check_table.specs.Ladder.{numbers-stop, numbers-clear, numbers-accept, within, table-short, table-long, room-short, room-long, row-found, row-none}
+use Rattle.check_table.proofs.check_transpose.Statement.{statement}
+use Rattle.check_table.proofs.check_transpose.Tie as tie
+
+returns-2 : tie.Need-returns-2
+unfolding answer
+returns-2 c = λ d l.
+    let a = c .before .before .before .before .before .before .before .args in
+    let z = numbers-clear (a .p) (a .n) (table (a .r) (a .s) (a .t .now)) _ (c .before .before .before .before .before .numbers .ensures (a .t .now)) (c .before .before .before .if1 .left) in
+    let e0 = table-short (a .t .now) (a .n) _ (width (a .r) (a .s)) (c .before .before .row-width .ensures .0) (c .before .if2 .taken) in
+    rw (z .prime, z .size, z .orders, e0) (reply-is (c .refuse .ensures))
+
+returns-3 : tie.Need-returns-3
+unfolding answer
+returns-3 c = λ d l.
+    let a = c .before .before .before .before .before .before .before .before .args in
+    let z = numbers-clear (a .p) (a .n) (table (a .r) (a .s) (a .t .now)) _ (c .before .before .before .before .before .before .numbers .ensures (a .t .now)) (c .before .before .before .before .if1 .left) in
+    let e0 = table-long (a .t .now) (a .n) _ (width (a .r) (a .s)) (c .before .before .before .row-width .ensures .0) (c .before .before .if2 .left) in
+    let e1 = room-short d (a .room) _ (a .n * width (a .r) (a .s)) l (ap (λ (w : ℕ). a .n * w) (c .before .before .before .row-width .ensures .0)) (c .before .if3 .taken) in
+    rw (z .prime, z .size, z .orders, e0, e1) (reply-is (c .refuse2 .ensures))
+
+returns-4 : tie.Need-returns-4
+unfolding answer
+returns-4 c = λ d l.
+    let a = c .before .before .before .before .before .before .before .before .before .before .args in
+    let z = numbers-clear (a .p) (a .n) (table (a .r) (a .s) (a .t .now)) _ (c .before .before .before .before .before .before .before .before .numbers .ensures (a .t .now)) (c .before .before .before .before .before .before .if1 .left) in
+    let e0 = table-long (a .t .now) (a .n) _ (width (a .r) (a .s)) (c .before .before .before .before .before .row-width .ensures .0) (c .before .before .before .before .if2 .left) in
+    let e1 = room-long d (a .room) _ (a .n * width (a .r) (a .s)) l (ap (λ (w : ℕ). a .n * w) (c .before .before .before .before .before .row-width .ensures .0)) (c .before .before .before .if3 .left) in
+    let e2 = row-found _ (firstBad (a .p) (a .n) (table (a .r) (a .s) (a .t .now))) (c .before .before .first-bad-row .ensures .0) (c .before .if4 .taken) in
+    rw (z .prime, z .size, z .orders, e0, e1, e2) (reply-is (c .refuse3 .ensures) ∙ ap (λ (m : ℕ). reply 5 1 m 0) (c .before .before .first-bad-row .ensures .0))
+
+returns-5 : tie.Need-returns-5
+unfolding answer
+returns-5 c = λ d l.
+    let a = c .before .before .before .before .before .before .before .before .before .args in
+    let z = numbers-clear (a .p) (a .n) (table (a .r) (a .s) (a .t .now)) _ (c .before .before .before .before .before .before .before .numbers .ensures (a .t .now)) (c .before .before .before .before .before .if1 .left) in
+    let e0 = table-long (a .t .now) (a .n) _ (width (a .r) (a .s)) (c .before .before .before .before .row-width .ensures .0) (c .before .before .before .if2 .left) in
+    let e1 = room-long d (a .room) _ (a .n * width (a .r) (a .s)) l (ap (λ (w : ℕ). a .n * w) (c .before .before .before .before .row-width .ensures .0)) (c .before .before .if3 .left) in
+    let e2 = row-none _ (firstBad (a .p) (a .n) (table (a .r) (a .s) (a .t .now))) (c .before .first-bad-row .ensures .0) (c .if4 .left) in
+    rw (z .prime, z .size, z .orders, e0, e1, e2) (numbers-accept (a .p) (a .n) (table (a .r) (a .s) (a .t .now)) _ (c .before .before .before .before .before .before .before .numbers .ensures (a .t .now)) (c .before .before .before .before .before .if1 .left))
+
+pub check-transpose-spec : {M : Type 1} → statement M
+check-transpose-spec =
+    tie.close
+    (tie.spec
+    (λ c κs. search needs)
+    (λ c. λ d l. let a = c .before .before .before .before .args in numbers-stop (a .p) (a .n) (table (a .r) (a .s) (a .t .now)) _ (c .before .before .numbers .ensures (a .t .now)) (c .if1 .taken) _ _)
+    (λ c κs. let a = c .before .before .before .before .args in let z = within _ _ _ (numbers-clear (a .p) (a .n) (table (a .r) (a .s) (a .t .now)) _ (c .before .before .numbers .ensures (a .t .now)) (c .if1 .left)) in (z .1, z .2))
+    (λ c. let a = c .before .before .before .before .before .args in let z = within _ _ _ (numbers-clear (a .p) (a .n) (table (a .r) (a .s) (a .t .now)) _ (c .before .before .before .numbers .ensures (a .t .now)) (c .before .if1 .left)) in omega (arith, mul-le-mul {n₁ = a .n} {m₁ = c .row-width .result} {n₂ = 1024} {m₂ = 161} (z .0) (c .row-width .ensures .1)))
+    (λ c κs. search needs)
+    returns-2
+    (λ c κs. search needs)
+    returns-3
+    (λ c κs. let a = c .before .before .before .before .before .before .before .args in let z = within _ _ _ (numbers-clear (a .p) (a .n) (table (a .r) (a .s) (a .t .now)) _ (c .before .before .before .before .before .numbers .ensures (a .t .now)) (c .before .before .before .if1 .left)) in (z .1, z .2, z .0, rw (c .before .before .row-width .ensures .0) at (c .before .if2 .left)))
+    (λ c. search needs)
+    (λ c κs. search needs)
+    returns-4
+    returns-5)

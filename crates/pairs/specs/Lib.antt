@@ -1,4 +1,0 @@
-pub mod Pairs
-pub mod PairLaws
-pub mod Held
-pub mod JoinedRows
