@@ -6,3 +6,4 @@ pub mod Cross
 pub mod CrossLaws
 pub mod HeldCross
 pub mod CrossColumns
+pub mod RowHolds
