@@ -20,12 +20,14 @@ module _ {K : Ring} (N : ℕ) (r s : ℕ → ℕ) (c c′ : ℕ → Gens K) (A :
   below-same zero j m e h i l = let f : m ≡ suc j = omega arith in A j (omega arith) q-column i 0 (rw f at l) (omega arith)
   below-same (suc n) j m e h i l =
       let f : m ≡ suc (suc n + j) = omega arith in
-      dots (r (suc n + j)) _ _ _ _ (λ k g. A (suc n + j) (omega arith) a-block i k (rw f at l) g) (λ k g. below-same n j (suc n + j) (omega arith) (omega arith) k g)
+      dots (r (suc n + j)) _ _ _ _ (λ k g. A (suc n + j) (omega arith) a-block i k (rw f at l) g)
+      (λ k g. below-same n j (suc n + j) (omega arith) (omega arith) k g)
 
   above-same : (n i : ℕ) → 0 < i → n + i < N → (k : ℕ) → k < s i → above r s c n i k ≡ above r s c′ n i k
   unfolding above
   above-same zero i p h k l = A i (omega arith) h-column k 0 l (omega arith)
-  above-same (suc n) i p h k l = dots (s (suc i)) _ _ _ _ (λ j g. A i (omega arith) b-block k j l g) (λ j g. above-same n (suc i) (omega arith) (omega arith) j g)
+  above-same (suc n) i p h k l = dots (s (suc i)) _ _ _ _ (λ j g. A i (omega arith) b-block k j l g)
+      (λ j g. above-same n (suc i) (omega arith) (omega arith) j g)
 
   pub entries-agree : Same K N (entryOf r s c) (entryOf r s c′)
   unfolding entryOf

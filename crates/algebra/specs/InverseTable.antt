@@ -28,7 +28,8 @@ module _ {K : Ring} (r s s′ : ℕ) (c : Gens K) (f : ℕ → ℕ → K .car) (
   unfolding self vecs cols ray rowOf mapOf wordMap rowMap colMap Recip
   is-factor = record {
     eD = two-ray (same-map (self K)) (comp p F) (pivotG r s c f) (c .h) (c .d) (sub-p (self K) _ _);
-    eG = two-cols (ray (pivotG r s c f)) (comp p F) s′ (vG r s c f i) (columnOf (c .b)) (c .g) (λ j. sub-via (self K) (c .g j) _ _ (ray-there K (pivotG r s c f) i e _));
+    eG = two-cols (ray (pivotG r s c f)) (comp p F) s′ (vG r s c f i) (columnOf (c .b)) (c .g)
+        (λ j. sub-via (self K) (c .g j) _ _ (ray-there K (pivotG r s c f) i e _));
     eQ = two-ray (ray (yG r s c f i)) (comp a F) (pivotG r s c f) (c .h) (c .q) (sub-via (vecs K) (c .q) _ _ (ray-over K (pivotG r s c f) i e (vecs K) _));
     eF = two-cols (comp a F) (comp (ray (yG r s c f i)) (ray (pivotG r s c f))) s′ (columnOf (c .b)) (vG r s c f i) (columnOf (fG r s c f i))
         (λ j. ap (λ t. vecs K .plus (a .fn (F .fn (columnOf (c .b) j))) (ray {A = vecs K} (yG r s c f i) .fn t)) (ray-there K (pivotG r s c f) i e _));
@@ -136,7 +137,8 @@ module _ {K : Ring} (F : Field K) (r s : ℕ → ℕ) (c : ℕ → Gens K) (N : 
   -- the column j of a table's matrix is what the unit column j is sent to
   column : (c′ : ℕ → Gens K) (j : ℕ) → j < N → Run N (tableOf r s c′) (unit (self K) j (unfold self in K .one)) (unfold self in λ i. entryOf r s c′ i j)
   unfolding self
-  column c′ j h = subst (λ y. Run N (tableOf r s c′) (unit (self K) j (K .one)) y) (fun-ext (λ i. entry-is r s c′ i j (K .one) ∙ mul-one K _)) (U-run N (tableOf r s c′) j (K .one) h)
+  column c′ j h = subst (λ y. Run N (tableOf r s c′) (unit (self K) j (K .one)) y) (fun-ext (λ i. entry-is r s c′ i j (K .one) ∙ mul-one K _))
+      (U-run N (tableOf r s c′) j (K .one) h)
 
   pub table-inverse : Same K N (timesM K N (entryOf r s c) (entryOf r s (inversesG r s c N))) (identity K)
   unfolding self

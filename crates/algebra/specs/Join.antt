@@ -53,7 +53,8 @@ module _ (K : Ring) where
   cols-join A m n c d w = A .many-is (m + n) _ ∙ ap (total A (m + n)) (fun-ext (λ j. sym (join-two (A .smul) m (w .0) (w .1) c d j))) ∙ total-join A m n _ _
       ∙ sym (ap₂ (A .plus) (A .many-is m _) (A .many-is n _))
 
-  pub glue-ray : (n : ℕ) (c d : vecs K .car) (t : self K .car) → ray {A = vecs K} (glue n .fn (c, d)) .fn t ≡ glue n .fn (ray {A = vecs K} c .fn t, ray {A = vecs K} d .fn t)
+  pub glue-ray : (n : ℕ) (c d : vecs K .car) (t : self K .car) → ray {A = vecs K} (glue n .fn (c, d)) .fn t
+      ≡ glue n .fn (ray {A = vecs K} c .fn t, ray {A = vecs K} d .fn t)
   unfolding ray self
   glue-ray n c d t = sym (glue n .scale t (c, d))
 
@@ -70,7 +71,8 @@ module _ (K : Ring) where
 
     -- c at upper left with m1 columns, f e at upper right and d at lower right with m2 columns
     pub block : (m1 m2 : ℕ) (c : ℕ → vecs K .car) (A : Mod K) (f : Hom A (vecs K)) (e : ℕ → A .car) (d : ℕ → vecs K .car) (w : vecs K .car × vecs K .car)
-        → vecs K .plus (cols {A = vecs K} m1 (λ j. glue n .fn (c j, vecs K .zero)) .fn (w .0)) (cols {A = vecs K} m2 (λ j. glue n .fn (f .fn (e j), d j)) .fn (w .1))
+        → vecs K .plus (cols {A = vecs K} m1 (λ j. glue n .fn (c j, vecs K .zero)) .fn (w .0))
+        (cols {A = vecs K} m2 (λ j. glue n .fn (f .fn (e j), d j)) .fn (w .1))
         ≡ glue n .fn (vecs K .plus (cols {A = vecs K} m1 c .fn (w .0)) (f .fn (cols {A = A} m2 e .fn (w .1))), cols {A = vecs K} m2 d .fn (w .1))
     unfolding inl inr
     block m1 m2 c A f e d w =

@@ -121,7 +121,8 @@ pub neg-add : {K : Ring} (A : Mod K) (x y : A .car) → A .neg (A .plus x y) ≡
 neg-add A x y = cancel A (A .plus x y) _ _ (neg-p A _ ∙ sym all)
   where
     all : A .plus (A .plus (A .neg x) (A .neg y)) (A .plus x y) ≡ A .zero
-    all = ap (A .plus _) (A .comm x y) ∙ A .assoc _ _ _ ∙ ap (A .plus (A .neg x)) (sym (A .assoc _ _ _) ∙ ap (λ t. A .plus t x) (neg-p A y) ∙ zero-p A x) ∙ neg-p A x
+    all = ap (A .plus _) (A .comm x y) ∙ A .assoc _ _ _ ∙ ap (A .plus (A .neg x)) (sym (A .assoc _ _ _) ∙ ap (λ t. A .plus t x) (neg-p A y)
+        ∙ zero-p A x) ∙ neg-p A x
 
 pub s-zero : {K : Ring} (A : Mod K) (t : K .car) → A .smul t (A .zero) ≡ A .zero
 s-zero A t = cancel A (A .smul t (A .zero)) _ _ (sym (A .smul-add t _ _) ∙ ap (A .smul t) (A .add-zero _) ∙ sym (zero-p A _))
@@ -130,7 +131,12 @@ pub s-neg : {K : Ring} (A : Mod K) (t : K .car) (x : A .car) → A .smul t (A .n
 s-neg A t x = cancel A (A .smul t x) _ _ (sym (A .smul-add t _ _) ∙ ap (A .smul t) (neg-p A x) ∙ s-zero A t ∙ sym (neg-p A _))
 
 abbrev pub minus : {K : Ring} {A B : Mod K} → Hom A B → Hom A B
-minus {B = B} f = record { fn = λ x. B .neg (f .fn x); add = λ x y. ap (B .neg) (f .add x y) ∙ neg-add B _ _; scale = λ t x. ap (B .neg) (f .scale t x) ∙ sym (s-neg B t _) }
+minus {B = B} f = record {
+  fn = λ x. B .neg (f .fn x);
+  add = λ x y. ap (B .neg) (f .add x y) ∙ neg-add B _ _;
+  scale = λ t x. ap (B .neg) (f .scale t x)
+      ∙ sym (s-neg B t _);
+}
 
 abbrev pub same-map : {K : Ring} (A : Mod K) → Hom A A
 same-map A = record { fn = λ x. x; add = λ x y. refl; scale = λ t x. refl }

@@ -33,7 +33,8 @@ module _ (K : Ring) where
   pub times-same : (N : ℕ) (A A′ B B′ : Matrix K) → Same K N A A′ → Same K N B B′ → Same K N (timesM K N A B) (timesM K N A′ B′)
   times-same N A A′ B B′ e f i j hi hj = sum-ext K N _ _ (λ k h. ap₂ _⊗_ (e i k hi h) (f k j h hj))
 
-  pub sends-same : (N : ℕ) (A A′ : Matrix K) (x x′ : ℕ → car) → Same K N A A′ → ((k : ℕ) → k < N → x k ≡ x′ k) → (i : ℕ) → i < N → sends K N A x i ≡ sends K N A′ x′ i
+  pub sends-same : (N : ℕ) (A A′ : Matrix K) (x x′ : ℕ → car) → Same K N A A′ → ((k : ℕ) → k < N → x k ≡ x′ k) → (i : ℕ) → i < N
+      → sends K N A x i ≡ sends K N A′ x′ i
   sends-same N A A′ x x′ e f i hi = sum-ext K N _ _ (λ k h. ap₂ _⊗_ (e i k hi h) (f k h))
 
   -- the entries of the identity, and a product with it

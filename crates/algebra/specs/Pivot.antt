@@ -22,10 +22,12 @@ pub record Pivot {K : Ring} {I O L U : Mod K} (r : Row I O L U) (s : Row O I L U
   pub eE : (o : O .car) → s .d .fn o ≡ I .plus (i .fn o) (s .g .fn (z′ .fn (s .q .fn o)))
   pub bT : (l : L .car) → I .plus (s .p .fn l) (s .d .fn (r .p .fn l)) ≡ s .g .fn (z′ .fn (r .a .fn l))
   pub bU : (o : O .car) → U .plus (s .h .fn o) (r .h .fn (s .d .fn o)) ≡ r .b .fn (z′ .fn (s .q .fn o))
-  pub bZ : (l : L .car) → U .plus (z .fn l) (U .plus (s .h .fn (r .p .fn l)) (U .plus (r .h .fn (s .d .fn (r .p .fn l))) (r .h .fn (s .p .fn l)))) ≡ r .b .fn (z′ .fn (r .a .fn l))
+  pub bZ : (l : L .car) → U .plus (z .fn l) (U .plus (s .h .fn (r .p .fn l)) (U .plus (r .h .fn (s .d .fn (r .p .fn l))) (r .h .fn (s .p .fn l))))
+      ≡ r .b .fn (z′ .fn (r .a .fn l))
 
 -- The same three with the inverse's a and b.
-module _ {K : Ring} {I O L U : Mod K} (r : Row I O L U) (s : Row O I L U) (m : Hom I O) (i : Hom O I) (f f′ : Hom U L) (z z′ : Hom L U) (P : Pivot r s m i f f′ z z′) where
+module _ {K : Ring} {I O L U : Mod K} (r : Row I O L U) (s : Row O I L U) (m : Hom I O) (i : Hom O I) (f f′ : Hom U L) (z z′ : Hom L U)
+    (P : Pivot r s m i f f′ z z′) where
   eT : (l : L .car) → s .g .fn (z′ .fn (s .a .fn l)) ≡ I .plus (s .p .fn l) (i .fn (r .p .fn l))
   eT l = cancel I (s .g .fn (z′ .fn (s .q .fn (r .p .fn l)))) _ _ (sym (simp (lin, P .eE, P .eA) (simp (lin, P .eE, P .eA) at (P .bT l))))
 
@@ -36,7 +38,8 @@ module _ {K : Ring} {I O L U : Mod K} (r : Row I O L U) (s : Row O I L U) (m : H
   eZ l = cancel U (U .plus (s .h .fn (r .p .fn l)) (U .plus (r .h .fn (s .d .fn (r .p .fn l))) (r .h .fn (s .p .fn l)))) _ _
       (P .bZ l ∙ simp (lin, P .eA, P .eB, P .eE, eT, eU))
 
-module _ {K : Ring} {I O L U : Mod K} (r : Row I O L U) (s : Row O I L U) (m : Hom I O) (i : Hom O I) (f f′ : Hom U L) (z z′ : Hom L U) (P : Pivot r s m i f f′ z z′)
+module _ {K : Ring} {I O L U : Mod K} (r : Row I O L U) (s : Row O I L U) (m : Hom I O) (i : Hom O I) (f f′ : Hom U L) (z z′ : Hom L U)
+    (P : Pivot r s m i f f′ z z′)
     (x : I .car) (c : O .car) (β β′ ρ ρ′ : L .car) (γ γ′ σ σ′ : U .car)
     (eγ : U .plus γ (U .plus σ (z .fn ρ)) ≡ U .zero) (eγ′ : U .plus γ′ (U .plus σ′ (z′ .fn ρ′)) ≡ U .zero)
     (eβ : L .plus β (f .fn γ) ≡ ρ) (eβ′ : L .plus β′ (f′ .fn γ′) ≡ ρ′) where
@@ -90,7 +93,8 @@ module _ {K : Ring} {I O L U : Mod K} (r : Row I O L U) (s : Row O I L U) (m : H
     }
 
 -- The runs: table on x gives c, if and only if inverse on c gives x.
-module _ {K : Ring} {I O L U : Mod K} (N : ℕ) (r : ℕ → Row I O L U) (s : ℕ → Row O I L U) (m : ℕ → Hom I O) (i : ℕ → Hom O I) (f : ℕ → Hom U L) (z : ℕ → Hom L U)
+module _ {K : Ring} {I O L U : Mod K} (N : ℕ) (r : ℕ → Row I O L U) (s : ℕ → Row O I L U) (m : ℕ → Hom I O) (i : ℕ → Hom O I) (f : ℕ → Hom U L)
+    (z : ℕ → Hom L U)
     (f0 : (u : U .car) → f 0 .fn u ≡ L .zero) (zN : (l : L .car) → z N .fn l ≡ U .zero)
     (P : (k : ℕ) → k < N → Pivot (r k) (s k) (m k) (i k) (f k) (f (suc k)) (z k) (z (suc k)))
     (x : ℕ → I .car) (c : ℕ → O .car) where

@@ -17,12 +17,15 @@ use Rattle.algebra.specs.Generators.{Gens, productG, productsG, Xs, Ys, 
 use Rattle.algebra.specs.Rows.{tableOf, rowOf, mapOf, entry-is}
 
 -- the block of `corners`, by its columns, times two columns one above the other
-pub corner : (K : Ring) (n m1 m2 : ℕ) (u : ℕ → vecs K .car) (A : Mod K) (f : Hom A (vecs K)) (e : ℕ → A .car) (v : ℕ → vecs K .car) (w : vecs K .car × vecs K .car)
-    → cols {A = vecs K} (m1 + m2) (unfold vecs in λ j i. join m1 (λ l. join n (u l) (λ k. K .zero) i) (λ l. join n (f .fn (e l)) (v l) i) j) .fn (glue K m1 .fn w)
+pub corner : (K : Ring) (n m1 m2 : ℕ) (u : ℕ → vecs K .car) (A : Mod K) (f : Hom A (vecs K)) (e : ℕ → A .car) (v : ℕ → vecs K .car)
+    (w : vecs K .car × vecs K .car)
+    → cols {A = vecs K} (m1 + m2) (unfold vecs in λ j i. join m1 (λ l. join n (u l) (λ k. K .zero) i) (λ l. join n (f .fn (e l)) (v l) i) j) .fn
+    (glue K m1 .fn w)
     ≡ glue K n .fn (vecs K .plus (cols {A = vecs K} m1 u .fn (w .0)) (f .fn (cols {A = A} m2 e .fn (w .1))), cols {A = vecs K} m2 v .fn (w .1))
 unfolding vecs glue
 corner K n m1 m2 u A f e v w =
-    ap (λ (c : ℕ → vecs K .car). cols {A = vecs K} (m1 + m2) c .fn (glue K m1 .fn w)) (fun-ext (λ j. fun-ext (λ i. join-one (λ (t : ℕ → K .car). t i) m1 _ _ j)))
+    ap (λ (c : ℕ → vecs K .car). cols {A = vecs K} (m1 + m2) c .fn (glue K m1 .fn w))
+    (fun-ext (λ j. fun-ext (λ i. join-one (λ (t : ℕ → K .car). t i) m1 _ _ j)))
     ∙ cols-join K (vecs K) m1 m2 _ _ w ∙ block K n m1 m2 u A f e v w
 
 module _ {K : Ring} (r1 s1 r2 s2 : ℕ → ℕ) (c1 c2 : ℕ → Gens K) where
@@ -32,13 +35,18 @@ module _ {K : Ring} (r1 s1 r2 s2 : ℕ → ℕ) (c1 c2 : ℕ → Gens K) where
       (rowOf (r1 k + r2 k) (s1 (suc k) + s2 (suc k)) (productG r1 s1 r2 s2 c1 c2 k X Y))
   unfolding self vecs cols ray rowOf mapOf glue join
   is-product k X Y = record {
-    cd = λ x. two-ray (comp p1 XH) (same-map (self K)) (c2 k .h) _ _ refl x ∙ ap (self K .plus (p1 .fn (XH .fn (ray {A = vecs K} (c2 k .h) .fn x)))) (two-ray (ray (c1 k .d)) (comp g1 YH) (c2 k .d) (c2 k .q) _ refl x);
-    cp = λ l. cols-join K (self K) (r1 k) (r2 k) _ _ l ∙ ap (self K .plus (p1 .fn (l .0))) (two-cols (comp g1 YH) (ray (c1 k .d)) (r2 k) (columnOf (c2 k .a)) (c2 k .p) _ (λ j. refl) (l .1));
+    cd = λ x. two-ray (comp p1 XH) (same-map (self K)) (c2 k .h) _ _ refl x
+        ∙ ap (self K .plus (p1 .fn (XH .fn (ray {A = vecs K} (c2 k .h) .fn x)))) (two-ray (ray (c1 k .d)) (comp g1 YH) (c2 k .d) (c2 k .q) _ refl x);
+    cp = λ l. cols-join K (self K) (r1 k) (r2 k) _ _ l ∙ ap (self K .plus (p1 .fn (l .0)))
+        (two-cols (comp g1 YH) (ray (c1 k .d)) (r2 k) (columnOf (c2 k .a)) (c2 k .p) _ (λ j. refl) (l .1));
     ca = λ l. corner K (r1 (suc k)) (r1 k) (r2 k) (columnOf (c1 k .a)) (self K) (ray (c1 k .q)) (c2 k .p) (columnOf (c2 k .a)) l;
-    cq = λ x. glue-ray K (r1 (suc k)) _ _ x ∙ ap (λ t. glue K (r1 (suc k)) .fn (t, ray {A = vecs K} (c2 k .q) .fn x)) (two-ray (comp a1 XH) (ray (c1 k .q)) (c2 k .h) (c2 k .d) _ refl x);
-    cg = λ u. cols-join K (self K) (s1 (suc k)) (s2 (suc k)) _ _ u ∙ ap (self K .plus (g1 .fn (u .0))) (two-cols (comp p1 XH) (ray (c1 k .d)) (s2 (suc k)) (columnOf (c2 k .b)) (c2 k .g) _ (λ j. refl) (u .1));
+    cq = λ x. glue-ray K (r1 (suc k)) _ _ x ∙ ap (λ t. glue K (r1 (suc k)) .fn (t, ray {A = vecs K} (c2 k .q) .fn x))
+        (two-ray (comp a1 XH) (ray (c1 k .q)) (c2 k .h) (c2 k .d) _ refl x);
+    cg = λ u. cols-join K (self K) (s1 (suc k)) (s2 (suc k)) _ _ u ∙ ap (self K .plus (g1 .fn (u .0)))
+        (two-cols (comp p1 XH) (ray (c1 k .d)) (s2 (suc k)) (columnOf (c2 k .b)) (c2 k .g) _ (λ j. refl) (u .1));
     cb = λ u. corner K (s1 k) (s1 (suc k)) (s2 (suc k)) (columnOf (c1 k .b)) (self K) (ray (c1 k .h)) (c2 k .g) (columnOf (c2 k .b)) u;
-    ch = λ x. glue-ray K (s1 k) _ _ x ∙ ap (λ t. glue K (s1 k) .fn (t, ray {A = vecs K} (c2 k .h) .fn x)) (two-ray (comp b1 YH) (ray (c1 k .h)) (c2 k .q) (c2 k .d) _ refl x);
+    ch = λ x. glue-ray K (s1 k) _ _ x ∙ ap (λ t. glue K (s1 k) .fn (t, ray {A = vecs K} (c2 k .h) .fn x))
+        (two-ray (comp b1 YH) (ray (c1 k .h)) (c2 k .q) (c2 k .d) _ refl x);
   }
     where
       p1 : Hom (vecs K) (self K)
@@ -68,19 +76,24 @@ module _ {K : Ring} (r1 s1 r2 s2 : ℕ → ℕ) (c1 c2 : ℕ → Gens K) where
   Y-end N l = let e : N - N ≡ 0 = omega arith in rw e (cols-zero (vecs K) (r2 N) l)
 
   X-step : (k : ℕ) (u : vecs K .car) → mapOf {K = K} (s2 (suc k)) (Xs r1 s1 r2 s2 c1 c2 (suc k)) .fn u
-      ≡ vecs K .plus (tableOf r1 s1 c1 k .a .fn (mapOf {K = K} (s2 k) (Xs r1 s1 r2 s2 c1 c2 k) .fn (tableOf r2 s2 c2 k .b .fn u))) (tableOf r1 s1 c1 k .q .fn (tableOf r2 s2 c2 k .g .fn u))
+      ≡ vecs K .plus (tableOf r1 s1 c1 k .a .fn (mapOf {K = K} (s2 k) (Xs r1 s1 r2 s2 c1 c2 k) .fn (tableOf r2 s2 c2 k .b .fn u)))
+      (tableOf r1 s1 c1 k .q .fn (tableOf r2 s2 c2 k .g .fn u))
   unfolding Xs mapOf vecs self cols ray rowOf
-  X-step k u = two-cols (comp (tableOf r1 s1 c1 k .a) (mapOf {K = K} (s2 k) (Xs r1 s1 r2 s2 c1 c2 k))) (tableOf r1 s1 c1 k .q) (s2 (suc k)) (columnOf (c2 k .b)) (c2 k .g)
+  X-step k u = two-cols (comp (tableOf r1 s1 c1 k .a) (mapOf {K = K} (s2 k) (Xs r1 s1 r2 s2 c1 c2 k))) (tableOf r1 s1 c1 k .q) (s2 (suc k))
+      (columnOf (c2 k .b)) (c2 k .g)
       (columnOf (Xs r1 s1 r2 s2 c1 c2 (suc k))) (λ j. refl) u
 
   Y-step : (N k : ℕ) → k < N → (l : vecs K .car) → mapOf {K = K} (r2 k) (Ys r1 s1 r2 s2 c1 c2 (N - k) k) .fn l
-      ≡ vecs K .plus (tableOf r1 s1 c1 k .b .fn (mapOf {K = K} (r2 (suc k)) (Ys r1 s1 r2 s2 c1 c2 (N - suc k) (suc k)) .fn (tableOf r2 s2 c2 k .a .fn l))) (tableOf r1 s1 c1 k .h .fn (tableOf r2 s2 c2 k .p .fn l))
+      ≡ vecs K .plus (tableOf r1 s1 c1 k .b .fn (mapOf {K = K} (r2 (suc k)) (Ys r1 s1 r2 s2 c1 c2 (N - suc k) (suc k)) .fn (tableOf r2 s2 c2 k .a .fn l)))
+      (tableOf r1 s1 c1 k .h .fn (tableOf r2 s2 c2 k .p .fn l))
   unfolding Ys mapOf vecs self cols ray rowOf
   Y-step N k h l = let e : N - k ≡ suc (N - suc k) = omega arith in
-      rw e (two-cols (comp (tableOf r1 s1 c1 k .b) (mapOf {K = K} (r2 (suc k)) (Ys r1 s1 r2 s2 c1 c2 (N - suc k) (suc k)))) (tableOf r1 s1 c1 k .h) (r2 k) (columnOf (c2 k .a)) (c2 k .p)
+      rw e (two-cols (comp (tableOf r1 s1 c1 k .b) (mapOf {K = K} (r2 (suc k)) (Ys r1 s1 r2 s2 c1 c2 (N - suc k) (suc k)))) (tableOf r1 s1 c1 k .h) (r2 k)
+      (columnOf (c2 k .a)) (c2 k .p)
       (columnOf (Ys r1 s1 r2 s2 c1 c2 (suc (N - suc k)) k)) (λ j. refl) l)
 
-  pub product-matrix : (N : ℕ) → Same K N (entryOf (λ k. r1 k + r2 k) (λ k. s1 k + s2 k) (productsG r1 s1 r2 s2 c1 c2 N)) (timesM K N (entryOf r1 s1 c1) (entryOf r2 s2 c2))
+  pub product-matrix : (N : ℕ) → Same K N (entryOf (λ k. r1 k + r2 k) (λ k. s1 k + s2 k) (productsG r1 s1 r2 s2 c1 c2 N))
+      (timesM K N (entryOf r1 s1 c1) (entryOf r2 s2 c2))
   unfolding self productsG
   product-matrix N i j hi hj =
       sym (mul-one K _) ∙ sym (entry-is (λ k. r1 k + r2 k) (λ k. s1 k + s2 k) (productsG r1 s1 r2 s2 c1 c2 N) i j (K .one))

@@ -3,7 +3,8 @@ use mathlib.Core.Path.{_≡_, refl, sym, ap, ap₂, _∙_}
 use mathlib.Core.List.{List, [], _∷_}
 use Prim.Native.Nat.{ℕ, zero, suc, compare, Ordering, Ordering·lt, Ordering·eq, Ordering·gt}
 use Rattle.algebra.specs.Ring.{Ring}
-use Rattle.algebra.specs.RingLaws.{add-left-comm, mul-left-comm, zero-add, mul-one, add-mul, mul-zero, zero-mul, mul-neg, neg-mul, neg-neg, neg-zero, neg-sum}
+use Rattle.algebra.specs.RingLaws.{add-left-comm, mul-left-comm, zero-add, mul-one, add-mul, mul-zero, zero-mul, mul-neg, neg-mul, neg-neg, neg-zero}
+use Rattle.algebra.specs.RingLaws.{neg-sum}
 
 infixl 65 _⊞_
 infixl 70 _⊠_

@@ -19,7 +19,16 @@ use Rattle.algebra.specs.Generators.{Gens, below, above, entryOf}
 -- r columns in p and a, s columns in g and b
 unfoldable pub rowOf : {K : Ring} (r s : ℕ) → Gens K → Row (self K) (self K) (vecs K) (vecs K)
 unfolding self vecs
-rowOf {K} r s c = record { d = ray (c .d); p = cols r (c .p); a = cols r (columnOf (c .a)); q = ray (c .q); g = cols s (c .g); b = cols s (columnOf (c .b)); h = ray (c .h) }
+rowOf {K} r s c = record {
+  d = ray (c .d);
+  p = cols r (c .p);
+  a = cols r (columnOf (c .a));
+  q = ray (c .q);
+  g = cols s (c .g);
+  b =
+      cols s (columnOf (c .b));
+  h = ray (c .h);
+}
 
 -- a block with n columns
 unfoldable pub mapOf : {K : Ring} → ℕ → (ℕ → ℕ → K .car) → Hom (vecs K) (vecs K)

@@ -46,7 +46,8 @@ module _ {K : Ring} (F : Field K) (r s : ℕ → ℕ) (c : ℕ → Gens K) where
           at (yes e) = rw e z
           at (no e) = ok k (omega arith)
 
-      go : Regular r s c n ⊎ ((k : ℕ) × (k < n) × FirstZero r s c k) → Dec (pivots r s c n ≡ K .zero) → Regular r s c (suc n) ⊎ ((k : ℕ) × (k < suc n) × FirstZero r s c k)
+      go : Regular r s c n ⊎ ((k : ℕ) × (k < n) × FirstZero r s c k) → Dec (pivots r s c n ≡ K .zero)
+          → Regular r s c (suc n) ⊎ ((k : ℕ) × (k < suc n) × FirstZero r s c k)
       go (inr y) d = inr (y .0, omega (arith, y .1), y .2)
       go (inl ok) (yes e) = inr (n, omega arith, (e, ok))
       go (inl ok) (no z) = inl (more ok z)

@@ -59,4 +59,5 @@ module _ (K : Ring) where
   dot-swap n m A u w =
       ap (sumTo K n) (fun-ext (λ i. sum-mul m (λ l. A l i ⊗ u l) (w i)))
       ∙ sum-swap n m (λ i l. A l i ⊗ u l ⊗ w i)
-      ∙ ap (sumTo K m) (fun-ext (λ l. ap (sumTo K n) (fun-ext (λ i. ap (λ t. t ⊗ w i) (mul-comm (A l i) (u l)) ∙ mul-assoc (u l) (A l i) (w i))) ∙ sym (mul-sum (u l) n (λ i. A l i ⊗ w i))))
+      ∙ ap (sumTo K m) (fun-ext (λ l. ap (sumTo K n) (fun-ext (λ i. ap (λ t. t ⊗ w i) (mul-comm (A l i) (u l)) ∙ mul-assoc (u l) (A l i) (w i)))
+      ∙ sym (mul-sum (u l) n (λ i. A l i ⊗ w i))))

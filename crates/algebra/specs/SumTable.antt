@@ -45,7 +45,8 @@ module _ {K : Ring} {I O L1 U1 L2 U2 : Mod K} where
     }
 
     sum-entry : (i j : ℕ) → i < N → j < N → (t : I .car) → entry (λ k. sumRow (r1 k) (r2 k)) i j t ≡ O .plus (entry r1 i j t) (entry r2 i j t)
-    sum-entry i j hi hj t = same N (λ k. sumRow (r1 k) (r2 k)) (unit I j t) _ _ (U-run N _ j t hj) (sum-run (unit I j t) _ _ (U-run N r1 j t hj) (U-run N r2 j t hj)) i hi
+    sum-entry i j hi hj t = same N (λ k. sumRow (r1 k) (r2 k)) (unit I j t) _ _ (U-run N _ j t hj)
+        (sum-run (unit I j t) _ _ (U-run N r1 j t hj) (U-run N r2 j t hj)) i hi
 
 module _ {K : Ring} (r1 s1 r2 s2 : ℕ → ℕ) (c1 c2 : ℕ → Gens K) where
   none : Hom (vecs K) (vecs K)
@@ -70,7 +71,8 @@ module _ {K : Ring} (r1 s1 r2 s2 : ℕ → ℕ) (c1 c2 : ℕ → Gens K) where
   unfolding self
   sum-matrix N i j hi hj =
       sym (mul-one K _) ∙ sym (entry-is (λ k. r1 k + r2 k) (λ k. s1 k + s2 k) (sumsG r1 s1 r2 s2 c1 c2) i j (K .one))
-      ∙ carry-entry (λ k. glue K (r1 k)) (λ k. glue K (s1 k)) N _ (tableOf (λ k. r1 k + r2 k) (λ k. s1 k + s2 k) (sumsG r1 s1 r2 s2 c1 c2)) (λ k h. is-sum k) i j hi hj (K .one)
+      ∙ carry-entry (λ k. glue K (r1 k)) (λ k. glue K (s1 k)) N _ (tableOf (λ k. r1 k + r2 k) (λ k. s1 k + s2 k) (sumsG r1 s1 r2 s2 c1 c2))
+      (λ k h. is-sum k) i j hi hj (K .one)
       ∙ sum-entry N (tableOf r1 s1 c1) (tableOf r2 s2 c2) i j hi hj (K .one)
       ∙ ap₂ (K .add) (entry-is r1 s1 c1 i j (K .one) ∙ mul-one K _) (entry-is r2 s2 c2 i j (K .one) ∙ mul-one K _)
 
@@ -92,7 +94,8 @@ module _ {K : Ring} (t : K .car) (r s : ℕ → ℕ) (c : ℕ → Gens K) where
     where
       go : (x y : Bool) → pick x (dot K (r i) (λ k. K .mul t (c i .p k)) (below r s (λ k. multipleG t (c k)) (i - suc j) j))
           (pick y (dot K (s (suc i)) (λ k. K .mul t (c i .g k)) (above r s (λ k. multipleG t (c k)) (j - suc i) (suc i))) (K .mul t (c i .d)))
-          ≡ K .mul t (pick x (dot K (r i) (c i .p) (below r s c (i - suc j) j)) (pick y (dot K (s (suc i)) (c i .g) (above r s c (j - suc i) (suc i))) (c i .d)))
+          ≡ K .mul t (pick x (dot K (r i) (c i .p) (below r s c (i - suc j) j))
+          (pick y (dot K (s (suc i)) (c i .g) (above r s c (j - suc i) (suc i))) (c i .d)))
       go true y = ap (dot K (r i) (λ k. K .mul t (c i .p k))) (below-kept (i - suc j) j) ∙ dot-scale K t (r i) (c i .p) _
       go false true = ap (dot K (s (suc i)) (λ k. K .mul t (c i .g k))) (above-kept (j - suc i) (suc i)) ∙ dot-scale K t (s (suc i)) (c i .g) _
       go false false = refl

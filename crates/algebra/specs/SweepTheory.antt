@@ -60,8 +60,10 @@ module _ {K : Ring} {I J O L1 U1 L2 U2 : Mod K} (N : ℕ) (r1 : ℕ → Row J O 
   pub product-run : (x : ℕ → I .car) (z : ℕ → O .car) → Run N (table N r1 r2 X Y X0 YN eX eY) x z → (y : ℕ → J .car) × Run N r2 x y × Run N r1 y z
   product-run = product N r1 r2 X Y X0 YN eX eY
 
--- With a pivot that has an inverse in every row (the record Pivot states the scope's equations of m, v, y, f, e, t, u, z): the table takes x to c exactly where the inverse table takes c to x.
-module _ {K : Ring} {I O L U : Mod K} (N : ℕ) (r : ℕ → Row I O L U) (s : ℕ → Row O I L U) (m : ℕ → Hom I O) (i : ℕ → Hom O I) (f : ℕ → Hom U L) (z : ℕ → Hom L U)
+-- With a pivot that has an inverse in every row (the record Pivot states the scope's equations of m, v, y, f, e, t, u, z): the table takes x to c
+-- exactly where the inverse table takes c to x.
+module _ {K : Ring} {I O L U : Mod K} (N : ℕ) (r : ℕ → Row I O L U) (s : ℕ → Row O I L U) (m : ℕ → Hom I O) (i : ℕ → Hom O I) (f : ℕ → Hom U L)
+    (z : ℕ → Hom L U)
     (f0 : (u : U .car) → f 0 .fn u ≡ L .zero) (zN : (l : L .car) → z N .fn l ≡ U .zero)
     (P : (k : ℕ) → k < N → Pivot (r k) (s k) (m k) (i k) (f k) (f (suc k)) (z k) (z (suc k))) where
   pub inverse-run : (x : ℕ → I .car) (c : ℕ → O .car) → Run N r x c ↔ Run N s c x
@@ -96,14 +98,17 @@ module _ {K : Ring} (r1 s1 r2 s2 : ℕ → ℕ) (c1 c2 : ℕ → Gens K) (N : �
   pub sum-stands : Same K N (entryOf (λ k. r1 k + r2 k) (λ k. s1 k + s2 k) (sumsG r1 s1 r2 s2 c1 c2)) (plusM K (entryOf r1 s1 c1) (entryOf r2 s2 c2))
   sum-stands = sum-matrix r1 s1 r2 s2 c1 c2 N
 
-  pub product-stands : Same K N (entryOf (λ k. r1 k + r2 k) (λ k. s1 k + s2 k) (productsG r1 s1 r2 s2 c1 c2 N)) (timesM K N (entryOf r1 s1 c1) (entryOf r2 s2 c2))
+  pub product-stands : Same K N (entryOf (λ k. r1 k + r2 k) (λ k. s1 k + s2 k) (productsG r1 s1 r2 s2 c1 c2 N))
+      (timesM K N (entryOf r1 s1 c1) (entryOf r2 s2 c2))
   product-stands = product-matrix r1 s1 r2 s2 c1 c2 N
 
 -- The scope's own f, a f b + m y v, is the one used. (Its e, t, u and z stand in Generators.antt as it prints them.)
 module _ {K : Ring} (r s : ℕ) (c : Gens K) (f : ℕ → ℕ → K .car) (i : K .car) where
   pub f-as-printed : K .mul (pivotG r s c f) i ≡ K .one → (k j : ℕ)
       → fG r s c f i k j ≡ K .add (act K r (c .a) (act K s f (columnOf (c .b) j)) k) (K .mul (pivotG r s c f) (K .mul (yG r s c f i k) (vG r s c f i j)))
-  f-as-printed e k j = ap (K .add _) (sym (turn (pivotG r s c f) (yG r s c f i k) i (rowG r s c f j) ∙ ap (λ t. K .mul (K .mul (yG r s c f i k) (rowG r s c f j)) t) e ∙ mul-one K _))
+  f-as-printed e k j =
+      ap (K .add _) (sym (turn (pivotG r s c f) (yG r s c f i k) i (rowG r s c f j) ∙ ap (λ t. K .mul (K .mul (yG r s c f i k) (rowG r s c f j)) t) e
+      ∙ mul-one K _))
     where
       turn : (m y i w : K .car) → K .mul m (K .mul y (K .mul i w)) ≡ K .mul (K .mul y w) (K .mul m i)
       turn m y i w = ring₄ K m y i w (search quotes) (search quotes) refl

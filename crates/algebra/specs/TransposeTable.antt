@@ -29,7 +29,8 @@ module _ {K : Ring} (r s : ℕ → ℕ) (c : ℕ → Gens K) where
       ap (act K (s (suc i)) (c i .b)) (up-last n (suc i) w ∙ ap (λ (k : ℕ). up n (suc i) (act K (s (suc k)) (c k .b) w)) e)
 
   -- g(j) b(j + 1) … b(j + n) w, from either end
-  flipped : (n j m : ℕ) → m ≡ suc (n + j) → (w : ℕ → K .car) → dot K (s m) (below s r (λ k. transposeG (c k)) n j) w ≡ dot K (s (suc j)) (c j .g) (up n (suc j) w)
+  flipped : (n j m : ℕ) → m ≡ suc (n + j) → (w : ℕ → K .car) → dot K (s m) (below s r (λ k. transposeG (c k)) n j) w
+      ≡ dot K (s (suc j)) (c j .g) (up n (suc j) w)
   unfolding below up
   flipped zero j m e w = let f : m ≡ suc j = omega arith in rw f
   flipped (suc n) j m e w =
@@ -40,7 +41,8 @@ module _ {K : Ring} (r s : ℕ → ℕ) (c : ℕ → Gens K) where
       ∙ ap (dot K (s (suc j)) (c j .g)) (sym (up-last n (suc j) w ∙ ap₂ (λ (x y : ℕ). up n (suc j) (act K (s x) (c y .b) w)) f g))
 
 module _ {K : Ring} (r s : ℕ → ℕ) (c : ℕ → Gens K) where
-  lower-is : (i j : ℕ) → j < i → dot K (s i) (c i .h) (below s r (λ k. transposeG (c k)) (i - suc j) j) ≡ dot K (s (suc j)) (c j .g) (above r s c (i - suc j) (suc j))
+  lower-is : (i j : ℕ) → j < i → dot K (s i) (c i .h) (below s r (λ k. transposeG (c k)) (i - suc j) j)
+      ≡ dot K (s (suc j)) (c j .g) (above r s c (i - suc j) (suc j))
   lower-is i j l =
       let e : (i - suc j) + suc j ≡ i = omega arith in
       dot-comm K (s i) _ _ ∙ flipped r s c (i - suc j) j i (omega arith) (c i .h)

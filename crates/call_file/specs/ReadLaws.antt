@@ -31,7 +31,8 @@ module _ (f : List ℕ) (n r s : ℕ) (h : Headed f n r s) where
   -- the rows make up the table
   pub all-met : rowsOf n (metRow f n r s) ≡ readW f
   unfolding readW tableWords fileGens
-  all-met = ap₂ (λ (x y : ℕ). rowsOf n (metRow f n x y)) (sym (h .lower)) (sym (h .upper)) ∙ ap (λ (m : ℕ). rowsOf m (metRow f m (headR f) (headS f))) (sym (h .size))
+  all-met = ap₂ (λ (x y : ℕ). rowsOf n (metRow f n x y)) (sym (h .lower)) (sym (h .upper))
+      ∙ ap (λ (m : ℕ). rowsOf m (metRow f m (headR f) (headS f))) (sym (h .size))
 
   module _ (good : firstBadInFile f ≡ 0) where
     -- used words are below P

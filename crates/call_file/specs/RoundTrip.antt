@@ -23,7 +23,8 @@ pub record Canonical (f file : List ℕ) : Type 0 where
   pub chain : (k : ℕ) → k < headN f → met file k ≡ suc k
   pub end : met file (headN f) ≡ 0
   pub used : (k : ℕ) (κ : Kind) (i j : ℕ) → Used (headN f) (headR f) (headS f) k κ i j → fileRowWord file k κ i j ≡ fileRowWord f k κ i j
-  pub unused : (k : ℕ) (κ : Kind) (i j : ℕ) → k < headN f → Room (headR f) (headS f) κ i j → (Used (headN f) (headR f) (headS f) k κ i j → ⊥) → fileRowWord file k κ i j ≡ 0
+  pub unused : (k : ℕ) (κ : Kind) (i j : ℕ) → k < headN f → Room (headR f) (headS f) κ i j → (Used (headN f) (headR f) (headS f) k κ i j → ⊥)
+      → fileRowWord file k κ i j ≡ 0
 
 -- f is read into d, the table is written to g
 module _ (f d g : List ℕ) (ok : Accepted (readReply f d)) (room : fileBytes (headN f) (headR f) (headS f) ≤ length g) where
@@ -31,7 +32,8 @@ module _ (f d g : List ℕ) (ok : Accepted (readReply f d)) (room : fileBytes (h
   writes-again =
       let z = read-accepts f d .0 ok in
       let l = lengths (headP f) (headN f) (readT f d) .read f d in
-      accepts (headP f) (headN f) (readT f d) .write g .1 (z .1, (z .2, omega (arith, z .4, l), words-below (headP f) (headN f) (readT f d) .0 (reads-file f d ok .readable .1)), room)
+      accepts (headP f) (headN f) (readT f d) .write g .1
+      (z .1, (z .2, omega (arith, z .4, l), words-below (headP f) (headN f) (readT f d) .0 (reads-file f d ok .readable .1)), room)
 
   pub canonical : Canonical f (fileLeft (headP f) (headN f) (readT f d) g)
   canonical =

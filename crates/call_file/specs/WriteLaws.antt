@@ -24,7 +24,8 @@ use Rattle.row_words.specs.RowLaws.{lent-word}
 use Rattle.file_words.specs.ByteLaws.{bytes-append, bytes-word, bytes-join}
 
 -- the five words of the head
-pub head-bytes : (p n r s o : ℕ) (d a b c e f : List ℕ) → a ≡ putAt 0 4 (byteOf p) d → b ≡ putAt 4 4 (byteOf n) a → c ≡ putAt 8 4 (byteOf r) b → e ≡ putAt 12 4 (byteOf s) c → f ≡ putAt 16 4 (byteOf o) e
+pub head-bytes : (p n r s o : ℕ) (d a b c e f : List ℕ) → a ≡ putAt 0 4 (byteOf p) d → b ≡ putAt 4 4 (byteOf n) a → c ≡ putAt 8 4 (byteOf r) b
+    → e ≡ putAt 12 4 (byteOf s) c → f ≡ putAt 16 4 (byteOf o) e
     → f ≡ bytesOf (p ∷ n ∷ r ∷ s ∷ o ∷ []) ++ drop 20 d
 head-bytes p n r s o d a b c e f q1 q2 q3 q4 q5 =
     bytes-join 0 1 1 4 (p ∷ []) (n ∷ r ∷ s ∷ o ∷ []) d a f refl refl (bytes-word 0 0 p d a refl q1)
@@ -61,7 +62,8 @@ module _ (n r s k : ℕ) (t : List ℕ) (at w : ℕ) (z : w ≡ width r s) (q : 
   unfolding gens
   record-lent v b e f p pos good =
       f p pos (λ κ i j u. rw (here κ i j u) (used-below p n (table r s t) pos good k κ i j u))
-      ∙ ap₂ (λ (x : ℕ) (ws : List ℕ). bytesOf (x ∷ ws)) e (ap (rowWords p n r s k) (row-same p n r s k rowAt (tableWord (table r s t) k) (λ κ i j u. ap (res p) (here κ i j u))))
+      ∙ ap₂ (λ (x : ℕ) (ws : List ℕ). bytesOf (x ∷ ws)) e
+      (ap (rowWords p n r s k) (row-same p n r s k rowAt (tableWord (table r s t) k) (λ κ i j u. ap (res p) (here κ i j u))))
     where
       here : (κ : Kind) (i j : ℕ) → Used n r s k κ i j → rowAt κ i j ≡ tableWord (table r s t) k κ i j
       here κ i j u = lent-word r s k t at w z q κ i j (room n r s k κ i j u)
@@ -78,7 +80,8 @@ pub record Records (n r s : ℕ) (t d : List ℕ) (w size k at to : ℕ) (a : Li
   pub long : length a ≡ length d
   pub bytes : (p : ℕ) → 0 < p → firstBad p n (table r s t) ≡ 0 → a ≡ rowsOf k (recordOf p n r s t) ++ drop (k * size) d
 
-pub records-none : (n r s : ℕ) (t d : List ℕ) (w : ℕ) → w ≡ width r s → n * width r s ≤ length t → n * (4 * (1 + width r s)) ≤ length d → Records n r s t d w (4 * (1 + w)) 0 0 0 d
+pub records-none : (n r s : ℕ) (t d : List ℕ) (w : ℕ) → w ≡ width r s → n * width r s ≤ length t → n * (4 * (1 + width r s)) ≤ length d
+    → Records n r s t d w (4 * (1 + w)) 0 0 0 d
 records-none n r s t d w z h l = record {
   wide = z;
   sized = ap (λ (x : ℕ). 4 * (1 + x)) z;
@@ -96,7 +99,8 @@ module _ {n r s : ℕ} {t d : List ℕ} {w size k at to : ℕ} {a : List ℕ} (i
   pub record-room : k < n → (at + w ≤ length t) × (to + size ≤ length a)
   record-room h = (omega (arith, mul-le-mul-right w h, i .here, i .source), omega (arith, mul-le-mul-right size h, i .there, i .space, i .long))
 
-  pub records-more : {b : List ℕ} → k < n → length b ≡ length (midOf to (to + size - to) a) → ((p : ℕ) → 0 < p → firstBad p n (table r s t) ≡ 0 → b ≡ recordOf p n r s t k)
+  pub records-more : {b : List ℕ} → k < n → length b ≡ length (midOf to (to + size - to) a)
+      → ((p : ℕ) → 0 < p → firstBad p n (table r s t) ≡ 0 → b ≡ recordOf p n r s t k)
       → Records n r s t d w size (k + 1) (at + w) (to + size) (putMid to (to + size - to) a b)
   records-more {b} h l y = record {
     wide = i .wide;
@@ -107,7 +111,8 @@ module _ {n r s : ℕ} {t d : List ℕ} {w size k at to : ℕ} {a : List ℕ} (i
     here = omega (arith, i .here);
     there = omega (arith, i .there);
     long = same-len-mid to (to + size - to) a b l ∙ i .long;
-    bytes = λ p pos good. rows-part (recordOf p n r s t) d size (λ m. length-record p n r s t m ∙ sym (i .sized)) k to (i .bytes p pos good) (i .there) (y p pos good);
+    bytes = λ p pos good. rows-part (recordOf p n r s t) d size (λ m. length-record p n r s t m ∙ sym (i .sized)) k to (i .bytes p pos good) (i .there)
+        (y p pos good);
   }
 
   pub records-done : n ≤ k → (p : ℕ) → 0 < p → firstBad p n (table r s t) ≡ 0 → a ≡ rowsOf n (recordOf p n r s t) ++ drop (n * (4 * (1 + width r s))) d
@@ -130,8 +135,10 @@ file-is P n r s t = let g : ℕ → List ℕ = λ k. nextOf n k ∷ rowWords P n
 join-bytes : (H R d h b : List ℕ) (m : ℕ) → length H ≡ 20 → 20 ≤ length d → h ≡ H ++ drop 20 d → b ≡ R ++ drop m (midOf 20 (length d - 20) h)
     → putMid 20 (length d - 20) h b ≡ (H ++ R) ++ drop (20 + m) d
 join-bytes H R d h b m l f e q =
-    ap₂ (λ (x y : List ℕ). x ++ (b ++ y)) (ap (take 20) e ∙ take-at H (drop 20 d) 20 l) (ap (drop (length d - 20)) rest ∙ post-is 20 (length d) d f ∙ drop-of-length-le d {i = length d} (omega arith))
-    ∙ ap (λ (x : List ℕ). H ++ x) (append-nil b ∙ q ∙ ap (λ (x : List ℕ). R ++ x) (ap (drop m) (ap (take (length d - 20)) rest ∙ take-all (length d - 20) (drop 20 d) (omega (arith, length-drop 20 d))) ∙ drop-drop m 20 d))
+    ap₂ (λ (x y : List ℕ). x ++ (b ++ y)) (ap (take 20) e ∙ take-at H (drop 20 d) 20 l) (ap (drop (length d - 20)) rest ∙ post-is 20 (length d) d f
+    ∙ drop-of-length-le d {i = length d} (omega arith))
+    ∙ ap (λ (x : List ℕ). H ++ x) (append-nil b ∙ q ∙ ap (λ (x : List ℕ). R ++ x)
+    (ap (drop m) (ap (take (length d - 20)) rest ∙ take-all (length d - 20) (drop 20 d) (omega (arith, length-drop 20 d))) ∙ drop-drop m 20 d))
     ∙ sym (append-assoc H R (drop (20 + m) d))
   where
     rest : drop 20 h ≡ drop 20 d
@@ -139,7 +146,8 @@ join-bytes H R d h b m l f e q =
 
 -- the file's length
 pub file-long : (P n r s : ℕ) (t : List ℕ) → Good P n (table r s t) → length (writeW P n (table r s t)) ≡ fileBytes n r s
-file-long P n r s t g = file-length P n (table r s t) (prime-pos P (g .prime)) (omega (arith, g .limit)) (omega (arith, g .most)) (omega (arith, g .lower)) (omega (arith, g .upper))
+file-long P n r s t g = file-length P n (table r s t) (prime-pos P (g .prime)) (omega (arith, g .limit)) (omega (arith, g .most)) (omega (arith, g .lower))
+    (omega (arith, g .upper))
 
 module _ (n r s : ℕ) (d : List ℕ) (f : fileBytes n r s ≤ length d) where
   -- the part after the head has room for the records
@@ -150,7 +158,8 @@ module _ (n r s : ℕ) (d : List ℕ) (f : fileBytes n r s ≤ length d) where
       go w z = omega (arith, mid-len 20 (length d) h (omega arith))
 
   -- the head is written, then the records
-  pub file-left : (P : ℕ) (t h b : List ℕ) → h ≡ headOf P n r s ++ drop 20 d → b ≡ rowsOf n (recordOf P n r s t) ++ drop (n * (4 * (1 + width r s))) (midOf 20 (length d - 20) h)
+  pub file-left : (P : ℕ) (t h b : List ℕ) → h ≡ headOf P n r s ++ drop 20 d
+      → b ≡ rowsOf n (recordOf P n r s t) ++ drop (n * (4 * (1 + width r s))) (midOf 20 (length d - 20) h)
       → putMid 20 (length d - 20) h b ≡ writeW P n (table r s t) ++ drop (fileBytes n r s) d
   file-left P t h b e q =
       join-bytes (headOf P n r s) (rowsOf n (recordOf P n r s t)) d h b (n * (4 * (1 + width r s))) refl (omega arith) e q

@@ -19,7 +19,8 @@ ghost use Rattle.check_records.specs.Filed.{Headed};
 
 // The rows of a file whose chain and words are right, in the order of the chain, to the first n * w words of result.
 fn read_rows(f: &[u8], n: usize, r: usize, s: usize, result: &mut [u32])
-    requires { ⌜ Headed (now f) n r s × (length (now f) ≡ fileBytes n r s) × (0 < headP (now f)) × (firstBroken (now f) ≡ 0) × (firstBadInFile (now f) ≡ 0) × (n * width r s ≤ length (now result)) ⌝ }
+    requires { ⌜ Headed (now f) n r s × (length (now f) ≡ fileBytes n r s) × (0 < headP (now f)) × (firstBroken (now f) ≡ 0) × (firstBadInFile (now f) ≡ 0)
+        × (n * width r s ≤ length (now result)) ⌝ }
     ensures { λ _. ⌜ now (result .exit) ≡ readW (now (f .entry)) ++ drop (n * width r s) (now (result .entry)) ⌝ }
 {
     let w = check_numbers::row_width(r, s);
@@ -72,7 +73,9 @@ fn write_head(p: u32, n: u32, r: u32, s: u32, out: &mut [u8])
 fn write_rows(n: usize, r: usize, s: usize, t: &[u32], out: &mut [u8])
     requires { ⌜ (r ≤ 8) × (s ≤ 8) × (n ≤ mostSize) × (n * width r s ≤ length (now t)) × (n * (4 * (1 + width r s)) ≤ length (now out)) ⌝ }
     ensures { λ _. ⌜ ((p : ℕ) → 0 < p → firstBad p n (tab r s (now (t .entry))) ≡ 0
-        → now (out .exit) ≡ rowsOf n (λ k. bytesOf (pick (eqb (suc k) n) 0 (suc (suc k)) ∷ rowWords p n r s k (gens p n (tab r s (now (t .entry))) k))) ++ drop (n * (4 * (1 + width r s))) (now (out .entry))) ⌝ }
+        → now (out .exit) ≡ rowsOf n
+        (λ k. bytesOf (pick (eqb (suc k) n) 0 (suc (suc k)) ∷ rowWords p n r s k (gens p n (tab r s (now (t .entry))) k))) ++ drop
+        (n * (4 * (1 + width r s))) (now (out .entry))) ⌝ }
 {
     let w = check_numbers::row_width(r, s);
     let size = 4 * (1 + w);

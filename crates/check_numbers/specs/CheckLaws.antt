@@ -75,7 +75,8 @@ some-done k n f e l g = e ∙ ap (λ (m : ℕ). some m f) (le-antisymm l g)
 some-more : (n m : ℕ) (f : ℕ → Bool) → some (n + m) f ≡ (some n f || some m (λ e. f (n + e)))
 unfolding some
 some-more n zero f = rw add-zero (sym (or-none (some n f)))
-some-more n (suc m) f = ap (λ (i : ℕ). some i f) (add-suc n m) ∙ ap (λ (b : Bool). b || f (n + m)) (some-more n m f) ∙ or-assoc (some n f) (some m (λ e. f (n + e))) (f (n + m))
+some-more n (suc m) f = ap (λ (i : ℕ). some i f) (add-suc n m) ∙ ap (λ (b : Bool). b || f (n + m)) (some-more n m f)
+    ∙ or-assoc (some n f) (some m (λ e. f (n + e))) (f (n + m))
 
 some-grid : (h w : ℕ) (f : ℕ → Bool) → some (h * w) f ≡ some h (λ i. some w (λ j. f (i * w + j)))
 unfolding some
@@ -123,11 +124,13 @@ module _ (P N r s k : ℕ) (W : ℕ → ℕ) where
   abbrev badAt : Kind → Bool
   badAt κ = badBlock P N r s k word κ
 
-  block : (κ : Kind) (at n : ℕ) {b : Bool} → b ≡ badFrom at n → at ≡ blocksSize r s (before κ) → n ≡ high (shape N r s k) κ * wide (shape N r s k) κ → b ≡ badAt κ
+  block : (κ : Kind) (at n : ℕ) {b : Bool} → b ≡ badFrom at n → at ≡ blocksSize r s (before κ) → n ≡ high (shape N r s k) κ * wide (shape N r s k) κ
+      → b ≡ badAt κ
   block κ at n e q l = e ∙ ap₂ badFrom q l
       ∙ some-block (high (shape N r s k) κ) (wide (shape N r s k) κ) (wide (full r s) κ) (λ e. leb P (W (blocksSize r s (before κ) + e))) (wide-or N r s k κ)
 
-  by-blocks : {d p a q g b h : Bool} → d ≡ badAt d-word → p ≡ badAt p-row → a ≡ badAt a-block → q ≡ badAt q-column → g ≡ badAt g-row → b ≡ badAt b-block → h ≡ badAt h-column
+  by-blocks : {d p a q g b h : Bool} → d ≡ badAt d-word → p ≡ badAt p-row → a ≡ badAt a-block → q ≡ badAt q-column → g ≡ badAt g-row → b ≡ badAt b-block
+      → h ≡ badAt h-column
       → (d || (p || (a || (q || (g || (b || h)))))) ≡ badRow P N r s k word
   unfolding badRow
   by-blocks ed ep ea eq eg eb eh = ap₂ _||_ ed (ap₂ _||_ ep (ap₂ _||_ ea (ap₂ _||_ eq (ap₂ _||_ eg (ap₂ _||_ eb (eh ∙ sym (or-none (badAt h-column))))))))
@@ -143,7 +146,8 @@ module _ (P N r s k : ℕ) (W : ℕ → ℕ) where
         let u3 : upper2 ≡ gap N s (suc k) = u2 ∙ ap (gap N s) (add-one k) in
         simp or-assoc (by-blocks (block d-word _ _ ed (omega arith) (omega arith))
         (block p-row _ _ ep (omega arith) (omega arith)) (block a-block _ _ ea (omega arith) (ap₂ _*_ l3 l)) (block q-column _ _ eq (omega arith) (omega arith))
-        (block g-row _ _ eg (omega arith) (omega arith)) (block b-block _ _ eb (omega arith) (ap₂ _*_ u u3)) (block h-column _ _ eh (omega arith) (omega arith)))
+        (block g-row _ _ eg (omega arith) (omega arith)) (block b-block _ _ eb (omega arith) (ap₂ _*_ u u3))
+        (block h-column _ _ eh (omega arith) (omega arith)))
 
   -- whole blocks, one after the other, are one search
   sizes-more : (xs : List Kind) (κ : Kind) → blocksSize r s (xs ++ (κ ∷ [])) ≡ blocksSize r s xs + blockSize r s κ
@@ -155,12 +159,14 @@ module _ (P N r s k : ℕ) (W : ℕ → ℕ) where
   chain xs (κ ∷ κs) = badFrom (blocksSize r s xs) (blockSize r s κ) || chain (xs ++ (κ ∷ [])) κs
 
   from-more : (at m n : ℕ) → badFrom at (m + n) ≡ (badFrom at m || badFrom (at + m) n)
-  from-more at m n = some-more m n (λ e. leb P (W (at + e))) ∙ ap (λ (f : ℕ → ℕ). badFrom at m || some n (λ e. leb P (W (f e)))) (fun-ext (λ e. sym (add-assoc at m e)))
+  from-more at m n = some-more m n (λ e. leb P (W (at + e))) ∙ ap (λ (f : ℕ → ℕ). badFrom at m || some n (λ e. leb P (W (f e))))
+      (fun-ext (λ e. sym (add-assoc at m e)))
 
   chained : (xs κs : List Kind) → badFrom (blocksSize r s xs) (blocksSize r s κs) ≡ chain xs κs
   chained xs [] = sym (some-start _)
   chained xs (κ ∷ κs) = from-more (blocksSize r s xs) (blockSize r s κ) (blocksSize r s κs)
-      ∙ ap (λ (b : Bool). badFrom (blocksSize r s xs) (blockSize r s κ) || b) (ap (λ (at : ℕ). badFrom at (blocksSize r s κs)) (sym (sizes-more xs κ)) ∙ chained (xs ++ (κ ∷ [])) κs)
+      ∙ ap (λ (b : Bool). badFrom (blocksSize r s xs) (blockSize r s κ) || b) (ap (λ (at : ℕ). badFrom at (blocksSize r s κs)) (sym (sizes-more xs κ))
+      ∙ chained (xs ++ (κ ∷ [])) κs)
 
   -- so a row between the ends is one search of all its words
   module _ (h : k < N) (first : k ≡ 0 → ⊥) (last : k + 1 ≡ N → ⊥) where
@@ -174,7 +180,8 @@ module _ (P N r s k : ℕ) (W : ℕ → ℕ) where
 -- The part of a table that is lent on as row k: its words are the table's, and its length.
 pub row-at : (P N r s k : ℕ) (t : List ℕ) (at w : ℕ) → k < N → w ≡ width r s → at ≡ k * w
     → badRow P N r s k (λ κ i j. getD (take (at + w - at) (drop at t)) (place r s κ i j) 0) ≡ badRow P N r s k (tableWord (table r s t) k)
-row-at P N r s k t at w h e q = bad-same P N r s k h _ _ (λ κ i j u. getD-take (at + w - at) (drop at t) (place r s κ i j) 0 (omega (arith, place-lt r s κ i j (room N r s k κ i j u)))
+row-at P N r s k t at w h e q =
+    bad-same P N r s k h _ _ (λ κ i j u. getD-take (at + w - at) (drop at t) (place r s κ i j) 0 (omega (arith, place-lt r s κ i j (room N r s k κ i j u)))
     ∙ getD-drop at t (place r s κ i j) 0 ∙ ap (λ (a : ℕ). getD t (a + place r s κ i j) 0) (q ∙ ap (λ (m : ℕ). k * m) e))
 
 pub part-length : (t : List ℕ) (at w : ℕ) → at + w ≤ length t → length (take (at + w - at) (drop at t)) ≡ w

@@ -14,7 +14,8 @@ use Rattle.table.specs.Words.{Table, width, firstBad, firstBadPlace}
 use Rattle.table.specs.Replies.{Accepted, NoFault, accept, badPrime, badSize, badOrder, badPlace}
 use Rattle.table.specs.Results.{entryW}
 use Rattle.table.specs.RowFile.{fileBytes}
-use Rattle.table.specs.Calls.{tableLength, entryChecks, entryReply, matrixChecks, matrixReply, applyChecks, applyReply, transposeChecks, transposeReply, multipleChecks, multipleReply, pairChecks, sumReply, productReply, solveEarlier, inverseEarlier, writeChecks, writeReply}
+use Rattle.table.specs.Calls.{tableLength, entryChecks, entryReply, matrixChecks, matrixReply, applyChecks, applyReply, transposeChecks, transposeReply}
+use Rattle.table.specs.Calls.{multipleChecks, multipleReply, pairChecks, sumReply, productReply, solveEarlier, inverseEarlier, writeChecks, writeReply}
 use Rattle.table.specs.CallLaws.{passed, no-row, both-hold, good-prime}
 use Rattle.table.specs.WordLaws.{words-below}
 use Rattle.table.specs.Undertakings.{GoodNumbers, GoodTable}
@@ -41,8 +42,9 @@ good-of P N A n t = record {
   words = words-below P N A .1 (t .2);
 }
 
-module _ (P N : ℕ) (A : Table) (c0 : badPrime (standard .prime) P ≡ false) (c1 : badSize (standard .size) N ≡ false) (c2 : badOrder (standard .order) (A .lower) (A .upper) ≡ false) (long : tableLength N A ≤ length (A .words)) (words : firstBad P N A ≡ 0) where
-  good : Good P N A
+module _ (P N : ℕ) (A : Table) (c0 : badPrime (standard .prime) P ≡ false) (c1 : badSize (standard .size) N ≡ false)
+    (c2 : badOrder (standard .order) (A .lower) (A .upper) ≡ false) (long : tableLength N A ≤ length (A .words)) (words : firstBad P N A ≡ 0) where
+  pub good : Good P N A
   good = record {
     prime = good-prime (standard .prime) P c0;
     limit = leb-true P (standard .prime) (both-hold (isPrime P) (leb P (standard .prime)) c0 .1);
@@ -56,8 +58,11 @@ module _ (P N : ℕ) (A : Table) (c0 : badPrime (standard .prime) P ≡ false) (
 module _ (P N : ℕ) (A : Table) where
   pub entry-passed : (i j : ℕ) → Accepted (entryReply P N A i j) → Good P N A × ((1 ≤ i) × (i ≤ N)) × ((1 ≤ j) × (j ≤ N))
   unfolding entryReply
-  entry-passed i j ok = let c = passed (entryChecks P N A i j) (accept (entryW P N A _ _)) refl ok in
-      (good P N A (c 0) (c 1) (c 2) (ltb-false _ _ (c 4)) (no-row _ (c 5)), within i (or-false (badPlace N i) (badPlace N j) (c 3) .0), within j (or-false (badPlace N i) (badPlace N j) (c 3) .1))
+  entry-passed i j ok = let c = passed (entryChecks P N A i j) (accept (entryW P N A _ _)) refl ok in (
+    good P N A (c 0) (c 1) (c 2) (ltb-false _ _ (c 4)) (no-row _ (c 5)),
+    within i (or-false (badPlace N i) (badPlace N j) (c 3) .0),
+    within j (or-false (badPlace N i) (badPlace N j) (c 3) .1),
+  )
     where
       within : (k : ℕ) → badPlace N k ≡ false → (1 ≤ k) × (k ≤ N)
       within k e = let b = both-hold (leb 1 k) (leb k N) e in (leb-true 1 k (b .0), leb-true k N (b .1))
@@ -91,8 +96,16 @@ module _ (P N : ℕ) (A : Table) where
       (good P N A (c 0) (c 1) (c 2) (ltb-false _ _ (c 3)) (no-row _ (c 5)), ltb-false _ _ (c 4))
 
   -- the checks of solve before the pivots
-  pub solve-passed : (x v d : List ℕ) → NoFault (solveEarlier P N A x v d) → Good P N A × (1 ≤ N) × (N ≤ length x) × (N * A .upper ≤ length v) × (N ≤ length d) × (firstBadPlace P N x ≡ 0)
-  solve-passed x v d c = (good P N A (c 0) (c 1) (c 2) (ltb-false _ _ (c 3)) (no-row _ (c 7)), leb-true 1 N (both-hold (leb 1 N) (leb N (standard .size)) (c 1) .0), ltb-false _ _ (c 4), ltb-false _ _ (c 5), ltb-false _ _ (c 6), no-row _ (c 8))
+  pub solve-passed : (x v d : List ℕ) → NoFault (solveEarlier P N A x v d) → Good P N A × (1 ≤ N) × (N ≤ length x) × (N * A .upper ≤ length v)
+      × (N ≤ length d) × (firstBadPlace P N x ≡ 0)
+  solve-passed x v d c = (
+    good P N A (c 0) (c 1) (c 2) (ltb-false _ _ (c 3)) (no-row _ (c 7)),
+    leb-true 1 N (both-hold (leb 1 N) (leb N (standard .size)) (c 1) .0),
+    ltb-false _ _ (c 4),
+    ltb-false _ _ (c 5),
+    ltb-false _ _ (c 6),
+    no-row _ (c 8),
+  )
 
 -- two tables are good, their orders added are within the limits and the result has room
 pub record GoodPair (P N : ℕ) (A B : Table) (d : List ℕ) : Type 0 where

@@ -19,7 +19,8 @@ use Rattle.check_records.specs.Filed.{Headed}
 
 -- record m ends where m records end
 pub record-end : (m w : ℕ) → 1 ≤ m → 5 + (m - 1) * w + w ≡ 5 + m * w
-record-end m w h = let e : suc (m - 1) ≡ m = omega arith in add-assoc 5 ((m - 1) * w) w ∙ ap (λ (n : ℕ). 5 + n) (sym (suc-mul (m - 1) w) ∙ ap (λ (n : ℕ). n * w) e)
+record-end m w h = let e : suc (m - 1) ≡ m = omega arith in add-assoc 5 ((m - 1) * w) w
+    ∙ ap (λ (n : ℕ). 5 + n) (sym (suc-mul (m - 1) w) ∙ ap (λ (n : ℕ). n * w) e)
 
 -- Words i, .. of a file, w of them, lent on.
 module _ (f : List ℕ) (i w : ℕ) where
@@ -38,7 +39,8 @@ module _ (f : List ℕ) (i w : ℕ) where
   )
 
 -- a search from a word of a record on, said of its row, whose words begin with the record's second
-pub row-from : (p : ℕ) (f : List ℕ) (at n to : ℕ) {b : Bool} → b ≡ some n (λ e. leb p (fileWord f (at + e))) → at ≡ 1 + to → b ≡ some n (λ e. leb p (fileWord f (1 + (to + e))))
+pub row-from : (p : ℕ) (f : List ℕ) (at n to : ℕ) {b : Bool} → b ≡ some n (λ e. leb p (fileWord f (at + e))) → at ≡ 1 + to
+    → b ≡ some n (λ e. leb p (fileWord f (1 + (to + e))))
 row-from p f at n to q a = q ∙ ap (λ (g : ℕ → ℕ). some n (λ e. leb p (fileWord f (g e)))) (fun-ext (λ e. ap (λ (x : ℕ). x + e) a ∙ add-assoc 1 to e))
 
 -- whether row k, which is the record met after k others, has a bad word
@@ -52,7 +54,8 @@ met-first f = refl
 module _ (f : List ℕ) (n r s : ℕ) (h : Headed f n r s) where
   pub first-met : (p : ℕ) → headP f ≡ p → firstBadInFile f ≡ firstOf n (badMet f p n r s) 0
   unfolding firstBadInFile
-  first-met p e = ap₂ (λ (P N : ℕ). firstOf N (badMet f P N (headR f) (headS f)) 0) e (h .size) ∙ ap₂ (λ (x y : ℕ). firstOf n (badMet f p n x y) 0) (h .lower) (h .upper)
+  first-met p e = ap₂ (λ (P N : ℕ). firstOf N (badMet f P N (headR f) (headS f)) 0) e (h .size)
+      ∙ ap₂ (λ (x y : ℕ). firstOf n (badMet f p n x y) 0) (h .lower) (h .upper)
 
   -- a record of the chain is one of the file
   pub met-within : firstBroken f ≡ 0 → (k m : ℕ) → k < n → m ≡ met f k → (1 ≤ m) × (m ≤ n)
@@ -76,7 +79,8 @@ module _ (f : List ℕ) (n r s : ℕ) (h : Headed f n r s) where
       next-lent = let z : i + 0 ≡ i = omega arith in part-word f i (1 + v) 0 (omega arith) ∙ ap (fileWord f) z ∙ met-next
 
       -- a used word of the row lent on
-      pub word-lent : (κ : Kind) (x y : ℕ) → Used n r s k κ x y → fileWord (part f i (1 + v)) (1 + place r s κ x y) ≡ fileWord f (recordAt f (met f k) + (1 + place r s κ x y))
+      pub word-lent : (κ : Kind) (x y : ℕ) → Used n r s k κ x y → fileWord (part f i (1 + v)) (1 + place r s κ x y)
+          ≡ fileWord f (recordAt f (met f k) + (1 + place r s κ x y))
       word-lent κ x y u = part-word f i (1 + v) (1 + place r s κ x y) (omega (arith, place-lt r s κ x y (room n r s k κ x y u)))
           ∙ ap (λ (z : ℕ). fileWord f (z + (1 + place r s κ x y))) (begins ∙ ap (recordAt f) e)
 

@@ -51,7 +51,8 @@ puts-blank at t u f g = puts-same (puts-then at t (text " " ++ u) f g) (sym (app
 pub puts-start : (at : ℕ) (t a : List ℕ) → Puts at (take 0 t) a a (at + 0)
 puts-start at t a = let z : at + 0 ≡ at = omega arith in rw z (puts-none at a)
 
-pub puts-more : (at j x : ℕ) (t a b : List ℕ) → Puts at (take j t) a b (at + j) → j < length t → x ≡ getD t j 0 → at + j < length b → Puts at (take (j + 1) t) a (set b (at + j) x) (at + (j + 1))
+pub puts-more : (at j x : ℕ) (t a b : List ℕ) → Puts at (take j t) a b (at + j) → j < length t → x ≡ getD t j 0 → at + j < length b
+    → Puts at (take (j + 1) t) a (set b (at + j) x) (at + (j + 1))
 puts-more at j x t a b f h e l =
     let z : at + j + 1 ≡ at + (j + 1) = omega arith in
     rw (← z, add-one j, take-suc t j 0 h, ← e) (puts-then at (take j t) (x ∷ []) f (puts-one (at + j) x b l))
@@ -83,7 +84,8 @@ digits-more zero n rest h = rw (lt-ltb n 10 h)
 digits-more (suc m) n rest h = go (ltb n 10) (digits-more m (n / 10) ((48 + n % 10) ∷ rest) (let p = pow-succ' 10 (suc m) in omega (arith, p)))
   where
     go : (b : Bool) → digits (suc (suc m)) (n / 10) ((48 + n % 10) ∷ rest) ≡ digits (suc m) (n / 10) ((48 + n % 10) ∷ rest)
-        → pick b ((48 + n) ∷ rest) (digits (suc (suc m)) (n / 10) ((48 + n % 10) ∷ rest)) ≡ pick b ((48 + n) ∷ rest) (digits (suc m) (n / 10) ((48 + n % 10) ∷ rest))
+        → pick b ((48 + n) ∷ rest) (digits (suc (suc m)) (n / 10) ((48 + n % 10) ∷ rest))
+        ≡ pick b ((48 + n) ∷ rest) (digits (suc m) (n / 10) ((48 + n % 10) ∷ rest))
     go true e = refl
     go false e = e
 

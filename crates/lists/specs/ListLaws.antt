@@ -114,7 +114,8 @@ or-false false b e = (refl, e)
 pub some-false : (n : ℕ) (f : ℕ → Bool) → some n f ≡ false → (j : ℕ) → j < n → f j ≡ false
 unfolding some
 some-false zero f e j h = absurd (omega arith)
-some-false (suc n) f e j h = ⊎-elim (λ (q : suc j ≡ suc n). let z : n ≡ j = omega arith in rw z at (or-false (some n f) (f n) e .1)) (λ l. some-false n f (or-false (some n f) (f n) e .0) j (le-of-suc-le-suc l)) (eq-or-lt-of-le h)
+some-false (suc n) f e j h = ⊎-elim (λ (q : suc j ≡ suc n). let z : n ≡ j = omega arith in rw z at (or-false (some n f) (f n) e .1))
+    (λ l. some-false n f (or-false (some n f) (f n) e .0) j (le-of-suc-le-suc l)) (eq-or-lt-of-le h)
 
 pub false-some : (n : ℕ) (f : ℕ → Bool) → ((j : ℕ) → j < n → f j ≡ false) → some n f ≡ false
 unfolding some
@@ -134,7 +135,8 @@ pub search-next : (n : ℕ) (f : ℕ → Bool) (k : ℕ) → k < n → f k ≡ f
 unfolding firstOf
 search-next n f k h e =
     let a : n - k ≡ suc (n - (k + 1)) = omega arith in let b : k + 1 ≡ suc k = omega arith in
-    ap (λ (m : ℕ). firstOf m f k) a ∙ ap (λ (b : Bool). elim b as (λ (x : Bool). ℕ) [ true ↦ suc k | false ↦ firstOf (n - (k + 1)) f (suc k) ]) e ∙ ap (firstOf (n - (k + 1)) f) (sym b)
+    ap (λ (m : ℕ). firstOf m f k) a ∙ ap (λ (b : Bool). elim b as (λ (x : Bool). ℕ) [ true ↦ suc k | false ↦ firstOf (n - (k + 1)) f (suc k) ]) e
+    ∙ ap (firstOf (n - (k + 1)) f) (sym b)
 
 pub search-hit : (n : ℕ) (f : ℕ → Bool) (k : ℕ) → k < n → f k ≡ true → firstOf (n - k) f k ≡ k + 1
 unfolding firstOf
@@ -156,13 +158,15 @@ rows-same zero f g e = refl
 rows-same (suc n) f g e = ap₂ _++_ (rows-same n f g (λ k h. e k (omega arith))) (e n (omega arith))
 
 -- one turn of a loop over rows, each written to the part of w words that is lent on: the buffer so far is a
-pub rows-part : (g : ℕ → List ℕ) (d : List ℕ) (w : ℕ) → ((k : ℕ) → length (g k) ≡ w) → (k at : ℕ) {a b : List ℕ} → a ≡ rowsOf k g ++ drop (k * w) d → at ≡ k * w → b ≡ g k
+pub rows-part : (g : ℕ → List ℕ) (d : List ℕ) (w : ℕ) → ((k : ℕ) → length (g k) ≡ w) → (k at : ℕ) {a b : List ℕ} → a ≡ rowsOf k g ++ drop (k * w) d
+    → at ≡ k * w → b ≡ g k
     → putMid at (at + w - at) a b ≡ rowsOf (k + 1) g ++ drop ((k + 1) * w) d
 rows-part g d w l k at e q y =
     let n : length (rowsOf k g) ≡ at = length-rows g w l k ∙ sym q in
     let z : k + 1 ≡ suc k = omega arith in
     rw (e, y, z, suc-mul, ← q, take-at (rowsOf k g) (drop at d) at n)
-    (ap (λ (m : List ℕ). rowsOf k g ++ (g k ++ m)) (ap (λ (m : List ℕ). drop (at + w - at) m) (drop-at (rowsOf k g) (drop at d) at n) ∙ post-is at (at + w) d (omega arith))
+    (ap (λ (m : List ℕ). rowsOf k g ++ (g k ++ m)) (ap (λ (m : List ℕ). drop (at + w - at) m) (drop-at (rowsOf k g) (drop at d) at n)
+    ∙ post-is at (at + w) d (omega arith))
     ∙ sym (append-assoc (rowsOf k g) (g k) (drop (at + w) d)))
 
 -- the search finds k exactly where f k is true and nothing before it is
@@ -215,4 +219,7 @@ module _ (n : ℕ) (f : ℕ → Bool) (Q : ℕ → Type 0) (tells : (k : ℕ) �
       back z = let h = within k (z .0) in first-is n f 0 k (omega arith) (omega arith) (has k (z .0)) (λ m a l. lacks m (omega arith) (z .1 m l))
 
   pub none-with : (firstOf n f 0 ≡ 0) ↔ ((k : ℕ) → Q k → ⊥)
-  none-with = (λ e k q. clash (sym (has k q) ∙ none n f 0 e k (omega arith) (omega (arith, within k q))), λ e. none-first n f 0 (λ k a h. lacks k (omega arith) (e k)))
+  none-with = (
+    λ e k q. clash (sym (has k q) ∙ none n f 0 e k (omega arith) (omega (arith, within k q))),
+    λ e. none-first n f 0 (λ k a h. lacks k (omega arith) (e k)),
+  )

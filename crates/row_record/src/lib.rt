@@ -42,7 +42,8 @@ fn write_part(
 )
     requires { ⌜ (o ≤ 8) × (at ≤ 82) × (from ≤ 81) × (4 * (at + (2 * o + o * o)) ≤ length (now out)) × (from + (2 * o + o * o) ≤ length (now row)) ⌝ }
     ensures { λ _. ⌜ ((pre d : List ℕ) → length pre ≡ 4 * at → now (out .entry) ≡ pre ++ drop (4 * at) d
-        → now (out .exit) ≡ (pre ++ bytesOf (copiedHalf (λ x. x) first last o (λ e. getD (now (row .entry)) e 0) from)) ++ drop (4 * (at + (2 * o + o * o))) d) ⌝ }
+        → now (out .exit) ≡ (pre ++ bytesOf (copiedHalf (λ x. x) first last o (λ e. getD (now (row .entry)) e 0) from)) ++ drop
+        (4 * (at + (2 * o + o * o))) d) ⌝ }
 {
     let middle = from + o;
     let end = middle + o * o;

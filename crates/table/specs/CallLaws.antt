@@ -39,7 +39,8 @@ unfolding answer
 refused-by [] v ok e = absurd (e ok)
 refused-by (c ∷ cs) v ok e = go (c .cause) refl e (λ e. refused-by cs v ok e)
   where
-    go : (b : Bool) → c .cause ≡ b → pick b (c .refusal) (answer cs v) .number ≢ 0 → (answer cs v .number ≢ 0 → (n : ℕ) × FirstFault cs n) → (n : ℕ) × FirstFault (c ∷ cs) n
+    go : (b : Bool) → c .cause ≡ b → pick b (c .refusal) (answer cs v) .number ≢ 0 → (answer cs v .number ≢ 0 → (n : ℕ) × FirstFault cs n)
+        → (n : ℕ) × FirstFault (c ∷ cs) n
     go true q e ih = (0, (q, λ m h. absurd (omega arith)))
     go false q e ih = let z = ih e in (suc (z .0), (z .1 .0, before (z .0) (z .1 .1)))
       where
@@ -98,7 +99,8 @@ all-clear (c ∷ cs) z zero = z .0
 all-clear (c ∷ cs) z (suc n) = all-clear cs (z .1) n
 
 -- a call accepts exactly where G holds, if that is where no cause does
-pub accepts-where : (cs : List Check) (v : Reply) {G : Type 0} → refusing cs ≡ true → Accepted v → (NoFault cs → G) → (G → AllClear cs) → Accepted (answer cs v) ↔ G
+pub accepts-where : (cs : List Check) (v : Reply) {G : Type 0} → refusing cs ≡ true → Accepted v → (NoFault cs → G) → (G → AllClear cs)
+    → Accepted (answer cs v) ↔ G
 accepts-where cs v r ok there back = (λ e. there (passed cs v r e), λ g. ap (λ (y : Reply). y .number) (open-checks cs v (all-clear cs (back g))) ∙ ok)
 
 pub answer-append : (cs ds : List Check) (v : Reply) → answer (cs ++ ds) v ≡ answer cs (answer ds v)

@@ -9,9 +9,11 @@ use lib.Seq.{take-at}
 use Rattle.algebra.specs.Kinds.{Kind}
 use Rattle.field.specs.Residue.{val, prime-pos, val-small}
 use Rattle.table.specs.Words.{Table, table, width, Used, tableWord, gens, matrixOf, tableWords}
-use Rattle.table.specs.WordLaws.{clean, table-at, table-used, row-unused, gen-used, room, written, written-unused, written-good, length-table, words-below}
+use Rattle.table.specs.WordLaws.{clean, table-at, table-used, row-unused, gen-used, room, written, written-unused, written-good, length-table}
+use Rattle.table.specs.WordLaws.{words-below}
 use Rattle.table.specs.RowFile.{fileBytes, headP, headN, headR, headS, firstBroken, fileRowWord, fileGens, fileMatrix, fileWords, readW, writeW}
-use Rattle.table.specs.RowFileLaws.{bytes-below, word-is, met-is, met-end, file-row, head-P, head-N, head-R, head-S, file-length, chain-none, chain-right, file-words-below, words-right, file-reads-back}
+use Rattle.table.specs.RowFileLaws.{bytes-below, word-is, met-is, met-end, file-row, head-P, head-N, head-R, head-S, file-length, chain-none, chain-right}
+use Rattle.table.specs.RowFileLaws.{file-words-below, words-right, file-reads-back}
 use Rattle.table.specs.Replies.{Reply, Accepted, accept}
 use Rattle.table.specs.Calls.{tableLength, readChecks, writeReply, readReply, readAfter, readT}
 use Rattle.table.specs.CallLaws.{value-is, after-is}
@@ -52,7 +54,13 @@ module _ (P N : ℕ) (A : Table) (f : List ℕ) (ok : Accepted (writeReply P N A
   written-file = record {
     long = left-length;
     bytes = bytes-below (fileWords P N A);
-    head = (word-is P N A pos fitP fitN fitR fitS 0, word-is P N A pos fitP fitN fitR fitS 1, word-is P N A pos fitP fitN fitR fitS 2, word-is P N A pos fitP fitN fitR fitS 3, word-is P N A pos fitP fitN fitR fitS 4);
+    head = (
+      word-is P N A pos fitP fitN fitR fitS 0,
+      word-is P N A pos fitP fitN fitR fitS 1,
+      word-is P N A pos fitP fitN fitR fitS 2,
+      word-is P N A pos fitP fitN fitR fitS 3,
+      word-is P N A pos fitP fitN fitR fitS 4,
+    );
     chain = met-is P N A pos fitP fitN fitR fitS;
     end = met-end P N A pos fitP fitN fitR fitS (N - 1) (omega (arith, rows));
     used = λ k κ i j u. let l = room N (A .lower) (A .upper) k κ i j u in
@@ -88,7 +96,12 @@ module _ (P N : ℕ) (A : Table) (f : List ℕ) (ok : Accepted (writeReply P N A
 
     back : ReadsBack P N A (writeW P N A) d
     back = record {
-      head = (head-P P N A pos fitP fitN fitR fitS, head-N P N A pos fitP fitN fitR fitS, head-R P N A pos fitP fitN fitR fitS, head-S P N A pos fitP fitN fitR fitS);
+      head = (
+        head-P P N A pos fitP fitN fitR fitS,
+        head-N P N A pos fitP fitN fitR fitS,
+        head-R P N A pos fitP fitN fitR fitS,
+        head-S P N A pos fitP fitN fitR fitS,
+      );
       accepted = accepted;
       words = leaves;
       same = rw leaves (clean P N A pos (words-below P N A .1 (good .1 .2)) _);
@@ -129,5 +142,8 @@ module _ (f d : List ℕ) (ok : Accepted (readReply f d)) where
     used = used-words;
     stands = λ i j hi hj. ap (λ (t : List ℕ). matrixOf (headP f) (headN f) (table (headR f) (headS f) t) i j) left
         ∙ written (headP f) (headN f) (headR f) (headS f) (fileGens f) _ i j hi hj;
-    readable = rw left (written-unused (headP f) (headN f) (headR f) (headS f) (fileGens f) _, written-good (headP f) (headN f) (headR f) (headS f) (fileGens f) _ prime-above);
+    readable = rw left (
+      written-unused (headP f) (headN f) (headR f) (headS f) (fileGens f) _,
+      written-good (headP f) (headN f) (headR f) (headS f) (fileGens f) _ prime-above,
+    );
   }

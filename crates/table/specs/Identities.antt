@@ -9,7 +9,8 @@ use lib.ListN.{length}
 use Rattle.table.specs.Words.{Table, SameColumn}
 use Rattle.table.specs.Results.{firstZero}
 use Rattle.table.specs.Replies.{Accepted, NoFault}
-use Rattle.table.specs.Calls.{tableLength, transposeReply, solveReply, solveAfter, solveEarlier, inverseReply, inverseEarlier, transposeT, inverseT, productT}
+use Rattle.table.specs.Calls.{tableLength, transposeReply, solveReply, solveAfter, solveEarlier, inverseReply, inverseEarlier, transposeT, inverseT}
+use Rattle.table.specs.Calls.{productT}
 use Rattle.table.specs.Undertakings.{NoneSingular, Alike, ProductAccepts}
 
 -- d is long enough for a table of A's orders, or of these exchanged

@@ -69,7 +69,8 @@ unfolding digits
 digits-are zero n rest t = t
 digits-are (suc m) n rest t = go (ltb n 10) refl (digits-are m (n / 10) ((48 + n % 10) ∷ rest) (digit-cons (48 + n % 10) rest (omega arith) (omega arith) t))
   where
-    go : (b : Bool) → ltb n 10 ≡ b → Digits (digits m (n / 10) ((48 + n % 10) ∷ rest)) → Digits (pick b ((48 + n) ∷ rest) (digits m (n / 10) ((48 + n % 10) ∷ rest)))
+    go : (b : Bool) → ltb n 10 ≡ b → Digits (digits m (n / 10) ((48 + n % 10) ∷ rest))
+        → Digits (pick b ((48 + n) ∷ rest) (digits m (n / 10) ((48 + n % 10) ∷ rest)))
     go true e ih = let l : n < 10 = ltb-true n 10 e in digit-cons (48 + n) rest (omega arith) (omega arith) t
     go false e ih = ih
 
@@ -86,7 +87,8 @@ unfolding digits
 digits-first zero n rest h pos = rw (lt-ltb n 10 (omega arith)) (λ e. omega arith)
 digits-first (suc m) n rest h pos = go (ltb n 10) refl (λ l. digits-first m (n / 10) ((48 + n % 10) ∷ rest) (omega arith) (omega arith))
   where
-    go : (b : Bool) → ltb n 10 ≡ b → (10 ≤ n → getD (digits (suc m) (n / 10) ((48 + n % 10) ∷ rest)) 0 0 ≢ 48) → getD (pick b ((48 + n) ∷ rest) (digits (suc m) (n / 10) ((48 + n % 10) ∷ rest))) 0 0 ≢ 48
+    go : (b : Bool) → ltb n 10 ≡ b → (10 ≤ n → getD (digits (suc m) (n / 10) ((48 + n % 10) ∷ rest)) 0 0 ≢ 48)
+        → getD (pick b ((48 + n) ∷ rest) (digits (suc m) (n / 10) ((48 + n % 10) ∷ rest))) 0 0 ≢ 48
     go true e ih = λ q. omega arith
     go false e ih = ih (ltb-false n 10 e)
 

@@ -17,7 +17,8 @@ use Rattle.table.specs.WordLaws.{bad-le, place-le}
 use Rattle.table.specs.Results.{firstZero, pivotW, entryW}
 use Rattle.table.specs.RowFile.{headP, headN, headR, headS, fileRowWord, broken, firstBroken, firstBadInFile}
 use Rattle.table.specs.Replies.{Reply, Check, answer, accept, refuse, causeAt, refusalAt, FirstFault, NoFault, badSize}
-use Rattle.table.specs.Calls.{sizeChecks, entryChecks, readChecks, entryReply, matrixReply, applyReply, transposeReply, multipleReply, sumReply, productReply, solveReply, inverseReply, writeReply, readReply}
+use Rattle.table.specs.Calls.{sizeChecks, entryChecks, pairChecks, readChecks, entryReply, matrixReply, applyReply, transposeReply, multipleReply}
+use Rattle.table.specs.Calls.{sumReply, productReply, solveReply, inverseReply, writeReply, readReply}
 use Rattle.table.specs.CallLaws.{both-hold, good-prime}
 use Rattle.table.specs.Undertakings.{Packed, PackedReplies}
 
@@ -47,7 +48,8 @@ fits-answer (c ∷ cs) v h g = go (c .cause) refl (λ h g. fits-answer cs v h g)
     all q z zero = q
     all q z (suc n) = z n
 
-    go : (b : Bool) → c .cause ≡ b → (((n : ℕ) → FirstFault cs n → Fits (refusalAt cs n)) → (NoFault cs → Fits v) → Fits (answer cs v)) → Fits (pick b (c .refusal) (answer cs v))
+    go : (b : Bool) → c .cause ≡ b → (((n : ℕ) → FirstFault cs n → Fits (refusalAt cs n)) → (NoFault cs → Fits v) → Fits (answer cs v))
+        → Fits (pick b (c .refusal) (answer cs v))
     go true q ih = h 0 (q, λ m l. absurd (omega arith))
     go false q ih = ih (λ n z. h (suc n) (z .0, before q n (z .1))) (λ z. g (all q z))
 
@@ -66,6 +68,14 @@ fit-cons c cs h t = record { at = go }
     go : (n : ℕ) → Fits (refusalAt (c ∷ cs) n)
     go zero = h
     go (suc n) = t .at n
+
+infixr 55 _⊳_
+pub _⊳_ : {c : Check} {cs : List Check} → Fits (c .refusal) → AllFit cs → AllFit (c ∷ cs)
+_⊳_ {c} {cs} = fit-cons c cs
+
+-- a refusal without a place
+pub bare : (n : ℕ) → n < 256 → Fits (refuse n 0 0)
+bare n h = plain n 0 0 h (omega arith) (omega arith)
 
 pub zero-fits : Fits (accept 0)
 zero-fits = (omega arith, omega arith, omega arith, omega arith)
@@ -103,21 +113,23 @@ module _ (P N : ℕ) (A : Table) where
       let p : P ≤ standard .prime = leb-true P (standard .prime) (both-hold (isPrime P) (leb P (standard .prime)) (z 0) .1) in
       (omega arith, omega arith, omega arith, omega (arith, val-below P (prime-pos P (good-prime (standard .prime) P (z 0))) (matrixOf P N A (i - 1) (j - 1))))
 
+  -- the lengths of the buffers, and the words of the first table
   f1 : Fits (refuse 4 1 0)
   f1 = short-fits 1 (omega arith)
+
+  f3 : Fits (refuse 4 3 0)
+  f3 = short-fits 3 (omega arith)
 
   f5 : Fits (refuse 4 5 0)
   f5 = short-fits 5 (omega arith)
 
-  sum-fits : (B : Table) (d : List ℕ) → Fits (sumReply P N A B d)
-  unfolding sumReply
-  sum-fits B d = fits-sizes standard _ _ (λ l. fit-cons _ _ (plain 3 2 0 (omega arith) (omega arith) (omega arith)) (fit-cons _ _ (plain 6 0 0 (omega arith) (omega arith) (omega arith))
-      (fit-cons _ _ f1 (fit-cons _ _ (short-fits 2 (omega arith)) (fit-cons _ _ f5 (fit-cons _ _ (words-fit 1 (omega arith) A l) (fit-cons _ _ (words-fit 2 (omega arith) B l) fit-nil))))))) (λ z. zero-fits)
+  w1 : N ≤ standard .size → Fits (refuse 5 1 (firstBad P N A))
+  w1 = words-fit 1 (omega arith) A
 
-  product-fits : (B : Table) (d : List ℕ) → Fits (productReply P N A B d)
-  unfolding productReply
-  product-fits B d = fits-sizes standard _ _ (λ l. fit-cons _ _ (plain 3 2 0 (omega arith) (omega arith) (omega arith)) (fit-cons _ _ (plain 6 0 0 (omega arith) (omega arith) (omega arith))
-      (fit-cons _ _ f1 (fit-cons _ _ (short-fits 2 (omega arith)) (fit-cons _ _ f5 (fit-cons _ _ (words-fit 1 (omega arith) A l) (fit-cons _ _ (words-fit 2 (omega arith) B l) fit-nil))))))) (λ z. zero-fits)
+  -- sum and product
+  pair-fits : (B : Table) (d : List ℕ) → Fits (answer (pairChecks P N A B d) (accept 0))
+  pair-fits B d = fits-sizes standard _ _ (λ l. plain 3 2 0 (omega arith) (omega arith) (omega arith) ⊳ bare 6 (omega arith)
+      ⊳ f1 ⊳ short-fits 2 (omega arith) ⊳ f5 ⊳ w1 l ⊳ words-fit 2 (omega arith) B l ⊳ fit-nil) (λ z. zero-fits)
 
   read-fits : (f d : List ℕ) → Fits (readReply f d)
   unfolding readReply firstBroken firstBadInFile
@@ -130,25 +142,37 @@ module _ (P N : ℕ) (A : Table) where
       go (suc (suc (suc zero))) z = plain 3 6 0 (omega arith) (omega arith) (omega arith)
       go (suc (suc (suc (suc zero)))) z = plain 9 6 0 (omega arith) (omega arith) (omega arith)
       go (suc (suc (suc (suc (suc zero))))) z = plain 4 5 0 (omega arith) (omega arith) (omega arith)
-      go (suc (suc (suc (suc (suc (suc zero)))))) z = plain 10 6 _ (omega arith) (omega arith) (omega (arith, first-le (suc (headN f)) (broken f), size-is (standard .size) (headN f) (z .1 2 (omega arith))))
-      go (suc (suc (suc (suc (suc (suc (suc zero))))))) z = plain 5 6 _ (omega arith) (omega arith) (omega (arith, first-le (headN f) (λ k. badRow (headP f) (headN f) (headR f) (headS f) k (fileRowWord f k)), size-is (standard .size) (headN f) (z .1 2 (omega arith))))
+      go (suc (suc (suc (suc (suc (suc zero)))))) z = plain 10 6 _ (omega arith) (omega arith)
+          (omega (arith, first-le (suc (headN f)) (broken f), size-is (standard .size) (headN f) (z .1 2 (omega arith))))
+      go (suc (suc (suc (suc (suc (suc (suc zero))))))) z = plain 5 6 _ (omega arith) (omega arith)
+          (omega (
+            arith,
+            first-le (headN f) (λ k. badRow (headP f) (headN f) (headR f) (headS f) k (fileRowWord f k)),
+            size-is (standard .size) (headN f) (z .1 2 (omega arith)),
+          ))
       go (suc (suc (suc (suc (suc (suc (suc (suc n)))))))) z = zero-fits
 
       last : NoFault (readChecks f d) → Fits (accept (headP f))
-      last z = (omega arith, omega arith, omega arith, omega (arith, leb-true (headP f) (standard .prime) (both-hold (isPrime (headP f)) (leb (headP f) (standard .prime)) (z 1) .1)))
+      last z = (
+        omega arith,
+        omega arith,
+        omega arith,
+        omega (arith, leb-true (headP f) (standard .prime) (both-hold (isPrime (headP f)) (leb (headP f) (standard .prime)) (z 1) .1)),
+      )
 
   pub replies : PackedReplies P N A
-  unfolding entryReply matrixReply applyReply transposeReply multipleReply solveReply inverseReply writeReply
+  unfolding entryReply matrixReply applyReply transposeReply multipleReply sumReply productReply solveReply inverseReply writeReply
   replies = record {
-    entry = λ i j. parts _ (fits-sizes standard _ _ (λ l. fit-cons _ _ (plain 8 0 0 (omega arith) (omega arith) (omega arith)) (fit-cons _ _ f1 (fit-cons _ _ (words-fit 1 (omega arith) A l) fit-nil))) (entry-fits i j));
-    matrix = λ d. parts _ (fits-sizes standard _ _ (λ l. fit-cons _ _ f1 (fit-cons _ _ f5 (fit-cons _ _ (words-fit 1 (omega arith) A l) fit-nil))) (λ z. zero-fits));
-    apply = λ x d. parts _ (fits-sizes standard _ _ (λ l. fit-cons _ _ f1 (fit-cons _ _ (short-fits 3 (omega arith)) (fit-cons _ _ f5 (fit-cons _ _ (words-fit 1 (omega arith) A l) (fit-cons _ _ (column-fits x l) fit-nil))))) (λ z. zero-fits));
-    transpose = λ d. parts _ (fits-sizes standard _ _ (λ l. fit-cons _ _ f1 (fit-cons _ _ f5 (fit-cons _ _ (words-fit 1 (omega arith) A l) fit-nil))) (λ z. zero-fits));
-    multiple = λ c d. parts _ (fits-sizes standard _ _ (λ l. fit-cons _ _ f1 (fit-cons _ _ f5 (fit-cons _ _ (plain 5 0 0 (omega arith) (omega arith) (omega arith)) (fit-cons _ _ (words-fit 1 (omega arith) A l) fit-nil)))) (λ z. zero-fits));
-    sum = λ B d. parts _ (sum-fits B d);
-    product = λ B d. parts _ (product-fits B d);
-    solve = λ x v d. parts _ (fits-sizes standard _ _ (λ l. fit-cons _ _ f1 (fit-cons _ _ (short-fits 3 (omega arith)) (fit-cons _ _ (short-fits 4 (omega arith)) (fit-cons _ _ f5 (fit-cons _ _ (words-fit 1 (omega arith) A l) (fit-cons _ _ (column-fits x l) (fit-cons _ _ (pivot-fits l) fit-nil))))))) (λ z. zero-fits));
-    inverse = λ d. parts _ (fits-sizes standard _ _ (λ l. fit-cons _ _ f1 (fit-cons _ _ f5 (fit-cons _ _ (words-fit 1 (omega arith) A l) (fit-cons _ _ (pivot-fits l) fit-nil)))) (λ z. zero-fits));
-    write = λ f. parts _ (fits-sizes standard _ _ (λ l. fit-cons _ _ f1 (fit-cons _ _ (short-fits 6 (omega arith)) (fit-cons _ _ (words-fit 1 (omega arith) A l) fit-nil))) (λ z. zero-fits));
+    entry = λ i j. parts _ (fits-sizes standard _ _ (λ l. bare 8 (omega arith) ⊳ f1 ⊳ w1 l ⊳ fit-nil) (entry-fits i j));
+    matrix = λ d. parts _ (fits-sizes standard _ _ (λ l. f1 ⊳ f5 ⊳ w1 l ⊳ fit-nil) (λ z. zero-fits));
+    apply = λ x d. parts _ (fits-sizes standard _ _ (λ l. f1 ⊳ f3 ⊳ f5 ⊳ w1 l ⊳ column-fits x l ⊳ fit-nil) (λ z. zero-fits));
+    transpose = λ d. parts _ (fits-sizes standard _ _ (λ l. f1 ⊳ f5 ⊳ w1 l ⊳ fit-nil) (λ z. zero-fits));
+    multiple = λ c d. parts _ (fits-sizes standard _ _ (λ l. f1 ⊳ f5 ⊳ bare 5 (omega arith) ⊳ w1 l ⊳ fit-nil) (λ z. zero-fits));
+    sum = λ B d. parts _ (pair-fits B d);
+    product = λ B d. parts _ (pair-fits B d);
+    solve = λ x v d. parts _ (fits-sizes standard _ _
+        (λ l. f1 ⊳ f3 ⊳ short-fits 4 (omega arith) ⊳ f5 ⊳ w1 l ⊳ column-fits x l ⊳ pivot-fits l ⊳ fit-nil) (λ z. zero-fits));
+    inverse = λ d. parts _ (fits-sizes standard _ _ (λ l. f1 ⊳ f5 ⊳ w1 l ⊳ pivot-fits l ⊳ fit-nil) (λ z. zero-fits));
+    write = λ f. parts _ (fits-sizes standard _ _ (λ l. f1 ⊳ short-fits 6 (omega arith) ⊳ w1 l ⊳ fit-nil) (λ z. zero-fits));
     read = λ f d. parts _ (read-fits f d);
   }

@@ -16,8 +16,10 @@ use Rattle.algebra.specs.Kinds.{Kind, wide}
 use Rattle.field.specs.Residue.{residues, val, val-below}
 use Rattle.lists.specs.Lists.{tabulate, rowsOf}
 use Rattle.lists.specs.ListLaws.{clash, getD-skip, length-rows, getD-rows, first-with, none-with}
-use Rattle.table.specs.Words.{Table, Room, Used, used, full, kinds, blockSize, width, place, blocks, wordOf, rowGens, gens, rowWords, tableWords, tableWord}
-use Rattle.table.specs.RowFile.{fileWord, byteOf, bytesOf, fileBytes, headP, headN, headR, headS, recordAt, met, fileRowWord, fileGens, readW, fileWords, writeW, broken, firstBroken, firstBadInFile, ChainWrong, HasBadInFile}
+use Rattle.table.specs.Words.{Table, Room, Used, used, full, kinds, blockSize, width, place, blocks, wordOf, rowGens, gens, rowWords, tableWords}
+use Rattle.table.specs.Words.{tableWord}
+use Rattle.table.specs.RowFile.{fileWord, byteOf, bytesOf, fileBytes, headP, headN, headR, headS, recordAt, met, fileRowWord, fileGens, readW, fileWords}
+use Rattle.table.specs.RowFile.{writeW, broken, firstBroken, firstBadInFile, ChainWrong, HasBadInFile}
 use Rattle.table.specs.WordLaws.{row-length, row-same, row-again, rows-first, rows-none, rows-below, place-lt, room}
 
 -- The meaning of the refusals of a file: the first row where its chain is wrong, and the first with a word that is P or more.
@@ -92,7 +94,16 @@ word-bytes (x ∷ xs) (suc i) h =
     let e1 : 4 + 4 * i + 1 ≡ 4 + (4 * i + 1) = omega arith in
     let e2 : 4 + 4 * i + 2 ≡ 4 + (4 * i + 2) = omega arith in
     let e3 : 4 + 4 * i + 3 ≡ 4 + (4 * i + 3) = omega arith in
-    rw (e0, e1, e2, e3, getD-skip 4 (byteOf x) (bytesOf xs) (4 * i), getD-skip 4 (byteOf x) (bytesOf xs) (4 * i + 1), getD-skip 4 (byteOf x) (bytesOf xs) (4 * i + 2), getD-skip 4 (byteOf x) (bytesOf xs) (4 * i + 3)) (word-bytes xs i h)
+    rw (
+      e0,
+      e1,
+      e2,
+      e3,
+      getD-skip 4 (byteOf x) (bytesOf xs) (4 * i),
+      getD-skip 4 (byteOf x) (bytesOf xs) (4 * i + 1),
+      getD-skip 4 (byteOf x) (bytesOf xs) (4 * i + 2),
+      getD-skip 4 (byteOf x) (bytesOf xs) (4 * i + 3),
+    ) (word-bytes xs i h)
 
 pub length-bytes : (ws : List ℕ) → length (bytesOf ws) ≡ 4 * length ws
 length-bytes [] = refl
@@ -129,7 +140,8 @@ byte-below x (suc b) = byte-below (x / 256) b
 
 pub bytes-below : (ws : List ℕ) → Below 256 (bytesOf ws)
 bytes-below [] = below-nil 256 (omega arith)
-bytes-below (x ∷ xs) = below-append 256 (omega arith) (tabulate 4 (byteOf x)) (bytesOf xs) (below-tabulate 256 (omega arith) 4 (byteOf x) (byte-below x)) (bytes-below xs)
+bytes-below (x ∷ xs) = below-append 256 (omega arith) (tabulate 4 (byteOf x)) (bytesOf xs) (below-tabulate 256 (omega arith) 4 (byteOf x) (byte-below x))
+    (bytes-below xs)
 
 -- a written row's words are below P
 module _ (P N r s k : ℕ) (c : Gens (residues P)) (pos : 0 < P) where
@@ -139,7 +151,8 @@ module _ (P N r s k : ℕ) (c : Gens (residues P)) (pos : 0 < P) where
 
   blocks-below : (κs : List Kind) → Below P (blocks r s (wordOf P N r s k c) κs)
   blocks-below [] = below-nil P pos
-  blocks-below (κ ∷ κs) = below-append P pos (tabulate (blockSize r s κ) (λ e. wordOf P N r s k c κ (e / wide (full r s) κ) (e % wide (full r s) κ))) (blocks r s (wordOf P N r s k c) κs)
+  blocks-below (κ ∷ κs) = below-append P pos (tabulate (blockSize r s κ) (λ e. wordOf P N r s k c κ (e / wide (full r s) κ) (e % wide (full r s) κ)))
+      (blocks r s (wordOf P N r s k c) κs)
       (below-tabulate P pos (blockSize r s κ) _ (λ e. word-below (used N r s k κ (e / wide (full r s) κ) (e % wide (full r s) κ)) _)) (blocks-below κs)
 
   pub row-below : Below P (rowWords P N r s k c)
@@ -173,8 +186,12 @@ module _ (P N : ℕ) (A : Table) (pos : 0 < P) (fitP : P < 4294967296) (fitN : N
   file-below : Below 4294967296 (fileWords P N A)
   unfolding fileWords
   file-below = below-append 4294967296 four-pos head5 (rowsOf N rec)
-      (below-cons 4294967296 four-pos P (N ∷ A .lower ∷ A .upper ∷ 1 ∷ []) fitP (below-cons 4294967296 four-pos N (A .lower ∷ A .upper ∷ 1 ∷ []) (omega arith) (below-cons 4294967296 four-pos (A .lower) (A .upper ∷ 1 ∷ []) fitR (below-cons 4294967296 four-pos (A .upper) (1 ∷ []) fitS (below-cons 4294967296 four-pos 1 [] (omega arith) (below-nil 4294967296 four-pos))))))
-      (below-rows 4294967296 four-pos N rec (λ k h. below-cons 4294967296 four-pos (next k) (rowWords P N (A .lower) (A .upper) k (gens P N A k)) (small-next k h) (row-small k)))
+      (below-cons 4294967296 four-pos P (N ∷ A .lower ∷ A .upper ∷ 1 ∷ []) fitP
+      (below-cons 4294967296 four-pos N (A .lower ∷ A .upper ∷ 1 ∷ []) (omega arith)
+      (below-cons 4294967296 four-pos (A .lower) (A .upper ∷ 1 ∷ []) fitR
+      (below-cons 4294967296 four-pos (A .upper) (1 ∷ []) fitS (below-cons 4294967296 four-pos 1 [] (omega arith) (below-nil 4294967296 four-pos))))))
+      (below-rows 4294967296 four-pos N rec (λ k h. below-cons 4294967296 four-pos (next k) (rowWords P N (A .lower) (A .upper) k (gens P N A k))
+      (small-next k h) (row-small k)))
 
   abbrev F : List ℕ
   F = writeW P N A
@@ -228,8 +245,10 @@ module _ (P N : ℕ) (A : Table) (pos : 0 < P) (fitP : P < 4294967296) (fitN : N
   unfolding met
   met-end k e = ap (met F) (sym e) ∙ ap (λ (m : ℕ). fileWord F (recordAt F m)) (met-is k (omega arith)) ∙ next-is k (omega arith) ∙ rw (eq-eqb (suc k) N e)
 
-  file-word : (k o : ℕ) → k < N → o < width (A .lower) (A .upper) → fileWord F (recordAt F (met F k) + (1 + o)) ≡ getD (rowWords P N (A .lower) (A .upper) k (gens P N A k)) o 0
-  file-word k o h l = ap (λ (m : ℕ). fileWord F (recordAt F m + (1 + o))) (met-is k h) ∙ ap (fileWord F) (ap (λ (m : ℕ). m + (1 + o)) (record-is k) ∙ z) ∙ rec-word k (1 + o) h (omega arith) ∙ q
+  file-word : (k o : ℕ) → k < N → o < width (A .lower) (A .upper) → fileWord F (recordAt F (met F k) + (1 + o))
+      ≡ getD (rowWords P N (A .lower) (A .upper) k (gens P N A k)) o 0
+  file-word k o h l = ap (λ (m : ℕ). fileWord F (recordAt F m + (1 + o))) (met-is k h) ∙ ap (fileWord F) (ap (λ (m : ℕ). m + (1 + o)) (record-is k) ∙ z)
+      ∙ rec-word k (1 + o) h (omega arith) ∙ q
     where
       z : 5 + k * (1 + width (A .lower) (A .upper)) + (1 + o) ≡ 5 + (k * (1 + width (A .lower) (A .upper)) + (1 + o))
       z = omega arith
@@ -237,7 +256,8 @@ module _ (P N : ℕ) (A : Table) (pos : 0 < P) (fitP : P < 4294967296) (fitN : N
       q : getD (rec k) (1 + o) 0 ≡ getD (rowWords P N (A .lower) (A .upper) k (gens P N A k)) o 0
       q = let e : 1 + o ≡ suc o = omega arith in rw e
 
-  pub file-row : (k : ℕ) (κ : Kind) (i j : ℕ) → k < N → Room (A .lower) (A .upper) κ i j → fileRowWord F k κ i j ≡ getD (rowWords P N (A .lower) (A .upper) k (gens P N A k)) (place (A .lower) (A .upper) κ i j) 0
+  pub file-row : (k : ℕ) (κ : Kind) (i j : ℕ) → k < N → Room (A .lower) (A .upper) κ i j
+      → fileRowWord F k κ i j ≡ getD (rowWords P N (A .lower) (A .upper) k (gens P N A k)) (place (A .lower) (A .upper) κ i j) 0
   file-row k κ i j h l = ap₂ (λ (x y : ℕ). fileWord F (recordAt F (met F k) + (1 + place x y κ i j))) head-R head-S
       ∙ file-word k (place (A .lower) (A .upper) κ i j) h (place-lt (A .lower) (A .upper) κ i j l)
 
@@ -266,8 +286,10 @@ module _ (P N : ℕ) (A : Table) (pos : 0 < P) (fitP : P < 4294967296) (fitN : N
 
   pub file-length : length W ≡ fileBytes N (A .lower) (A .upper)
   unfolding writeW fileWords
-  file-length = length-bytes (fileWords P N A) ∙ ap (λ (n : ℕ). 4 * n) (length-append (P ∷ N ∷ A .lower ∷ A .upper ∷ 1 ∷ []) (rowsOf N (rec P N A pos fitP fitN fitR fitS)))
-      ∙ ap (λ (n : ℕ). 4 * (5 + n)) (length-rows (rec P N A pos fitP fitN fitR fitS) (1 + width (A .lower) (A .upper)) (rec-length P N A pos fitP fitN fitR fitS) N)
+  file-length = length-bytes (fileWords P N A)
+      ∙ ap (λ (n : ℕ). 4 * n) (length-append (P ∷ N ∷ A .lower ∷ A .upper ∷ 1 ∷ []) (rowsOf N (rec P N A pos fitP fitN fitR fitS)))
+      ∙ ap (λ (n : ℕ). 4 * (5 + n)) (length-rows (rec P N A pos fitP fitN fitR fitS) (1 + width (A .lower) (A .upper))
+      (rec-length P N A pos fitP fitN fitR fitS) N)
 
   module _ (rows : 0 < N) where
     pub chain-right : firstBroken W ≡ 0
@@ -277,7 +299,14 @@ module _ (P N : ℕ) (A : Table) (pos : 0 < P) (fitP : P < 4294967296) (fitN : N
         inside k h = let n = head-N P N A pos fitP fitN fitR fitS in let e = met-is P N A pos fitP fitN fitR fitS k (omega arith) in (omega arith, omega arith)
 
     pub words-right : firstBadInFile W ≡ 0
-    words-right = file-bad-none W .1 (λ k z. fine k (z .0) (z .1) (z .2) (rw (head-N P N A pos fitP fitN fitR fitS, head-R P N A pos fitP fitN fitR fitS, head-S P N A pos fitP fitN fitR fitS) at (z .3)) (z .4))
+    words-right = file-bad-none W .1
+        (λ k z. fine k (z .0) (z .1) (z .2)
+        (rw (head-N P N A pos fitP fitN fitR fitS, head-R P N A pos fitP fitN fitR fitS, head-S P N A pos fitP fitN fitR fitS) at (z .3)) (z .4))
       where
         fine : (k : ℕ) (κ : Kind) (i j : ℕ) → Used N (A .lower) (A .upper) k κ i j → headP W ≤ fileRowWord W k κ i j → ⊥
-        fine k κ i j u l = omega (arith, head-P P N A pos fitP fitN fitR fitS, file-row P N A pos fitP fitN fitR fitS k κ i j (u .0) (room N (A .lower) (A .upper) k κ i j u), row-below P N (A .lower) (A .upper) k (gens P N A k) pos (place (A .lower) (A .upper) κ i j))
+        fine k κ i j u l = omega (
+          arith,
+          head-P P N A pos fitP fitN fitR fitS,
+          file-row P N A pos fitP fitN fitR fitS k κ i j (u .0) (room N (A .lower) (A .upper) k κ i j u),
+          row-below P N (A .lower) (A .upper) k (gens P N A k) pos (place (A .lower) (A .upper) κ i j),
+        )

@@ -43,7 +43,8 @@ module _ (P N : ℕ) (A : Table) (prime : Prime P) where
 
   zero-first : (k : ℕ) → k < N → Corner.FirstZero r s (gens P N A) k → firstZero P N A ≡ suc k
   unfolding firstZero
-  zero-first k h z = first-is N (λ k. eqb (pivotW P N A k) 0) 0 k (omega arith) (omega arith) (eq-eqb _ 0 (zero-is k (z .0))) (λ j a l. ne-eqb _ 0 (λ e. z .1 j l (is-zero j e)))
+  zero-first k h z = first-is N (λ k. eqb (pivotW P N A k) 0) 0 k (omega arith) (omega arith) (eq-eqb _ 0 (zero-is k (z .0)))
+      (λ j a l. ne-eqb _ 0 (λ e. z .1 j l (is-zero j e)))
 
   pub regular : firstZero P N A ≡ 0 → Corner.Regular r s (gens P N A) N
   unfolding firstZero

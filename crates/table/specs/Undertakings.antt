@@ -12,11 +12,18 @@ use Rattle.algebra.specs.Generators.{vs}
 use Rattle.algebra.specs.Kinds.{Kind}
 use Rattle.field.specs.Prime.{Prime}
 use Rattle.field.specs.Residue.{residues, res, val}
-use Rattle.table.specs.Words.{Table, withWords, gap, width, Used, Room, Idle, gens, tableWord, tableWords, matrixOf, firstBad, firstBadPlace, HasBad, HasBadPlace, WordsBelow, SameUsed, SameColumn, UnusedZero}
-use Rattle.table.specs.RowFile.{fileBytes, headP, headN, headR, headS, fileWord, recordAt, met, firstBroken, ChainWrong, fileRowWord, firstBadInFile, HasBadInFile, fileMatrix}
+use Rattle.table.specs.Words.{Table, withWords, gap, width, Used, Room, Idle, gens, tableWord, tableWords, matrixOf, firstBad, firstBadPlace, HasBad}
+use Rattle.table.specs.Words.{HasBadPlace, WordsBelow, SameUsed, SameColumn, UnusedZero}
+use Rattle.table.specs.RowFile.{fileBytes, headP, headN, headR, headS, fileWord, recordAt, met, firstBroken, ChainWrong, fileRowWord, firstBadInFile}
+use Rattle.table.specs.RowFile.{HasBadInFile, fileMatrix}
 use Rattle.table.specs.Results.{column, firstZero}
-use Rattle.table.specs.Replies.{Reply, Check, Accepted, accept, refuse, answer, packed, refusalAt, ladder, FirstFault, NoFault, badPrime, badSize, badOrder, badPlace, short}
-use Rattle.table.specs.Calls.{tableLength, entryChecks, matrixChecks, applyChecks, transposeChecks, multipleChecks, pairChecks, solveChecks, inverseChecks, writeChecks, readChecks, entryReply, matrixReply, matrixAfter, applyReply, applyAfter, applyTransposedAfter, transposeReply, transposeAfter, multipleReply, multipleAfter, sumReply, sumAfter, productReply, productAfter, solveReply, solveAfter, workAfter, inverseReply, inverseAfter, writeReply, writeAfter, readReply, readAfter, solveEarlier, inverseEarlier, transposeT, multipleT, inverseT, sumT, productT, readT}
+use Rattle.table.specs.Replies.{Reply, Check, Accepted, accept, refuse, answer, packed, refusalAt, ladder, FirstFault, NoFault, badPrime, badSize}
+use Rattle.table.specs.Replies.{badOrder, badPlace, short}
+use Rattle.table.specs.Calls.{tableLength, entryChecks, matrixChecks, applyChecks, transposeChecks, multipleChecks, pairChecks, solveChecks}
+use Rattle.table.specs.Calls.{inverseChecks, writeChecks, readChecks, entryReply, matrixReply, matrixAfter, applyReply, applyAfter, applyTransposedAfter}
+use Rattle.table.specs.Calls.{transposeReply, transposeAfter, multipleReply, multipleAfter, sumReply, sumAfter, productReply, productAfter, solveReply}
+use Rattle.table.specs.Calls.{solveAfter, workAfter, inverseReply, inverseAfter, writeReply, writeAfter, readReply, readAfter, solveEarlier}
+use Rattle.table.specs.Calls.{inverseEarlier, transposeT, multipleT, inverseT, sumT, productT, readT}
 use Rattle.table.specs.Groupings.{Grouping, firstFactor, otherFactors, grouped, AllAccept}
 
 -- 1. "Lent buffers are read and written within their lengths":
@@ -64,11 +71,14 @@ NoneSingular P N A = (k : ℕ) → k ≤ N → Singular (residues P) (matrixOf P
 
 -- Of sum and product: two good tables, good added orders, and room for the result.
 abbrev pub GoodPair : (P N : ℕ) (A B : Table) → List ℕ → Type 0
-GoodPair P N A B d = GoodNumbers P N × GoodTable P N A × GoodTable P N B × GoodOrders (A .lower + B .lower) (A .upper + B .upper) × (N * width (A .lower + B .lower) (A .upper + B .upper) ≤ length d)
+GoodPair P N A B d = GoodNumbers P N × GoodTable P N A × GoodTable P N B × GoodOrders (A .lower + B .lower) (A .upper + B .upper)
+    × (N * width (A .lower + B .lower) (A .upper + B .upper) ≤ length d)
 
--- Of a file that is read: a good head, "length is 4(5 + N(1 + w)) bytes exactly", room for its table, a chain that is nowhere wrong, and each used word below P.
+-- Of a file that is read: a good head, "length is 4(5 + N(1 + w)) bytes exactly", room for its table, a chain that is nowhere wrong, and each used
+-- word below P.
 abbrev pub GoodFile : (f d : List ℕ) → Type 0
-GoodFile f d = (20 ≤ length f) × GoodNumbers (headP f) (headN f) × GoodOrders (headR f) (headS f) × (length f ≡ fileBytes (headN f) (headR f) (headS f)) × (headN f * width (headR f) (headS f) ≤ length d)
+GoodFile f d = (20 ≤ length f) × GoodNumbers (headP f) (headN f) × GoodOrders (headR f) (headS f) × (length f ≡ fileBytes (headN f) (headR f) (headS f))
+    × (headN f * width (headR f) (headS f) ≤ length d)
     × ((k : ℕ) → ChainWrong f k → ⊥) × ((k : ℕ) (κ : Kind) (i j : ℕ) → Used (headN f) (headR f) (headS f) k κ i j → fileRowWord f k κ i j < headP f)
 
 -- Each call accepts exactly where all that it asks for is there; so a call that only refuses is shut out.
@@ -94,22 +104,26 @@ pub record Order (P N : ℕ) (A : Table) : Type 0 where
   pub matrix : (d : List ℕ) → ladder (matrixChecks P N A d)
       ≡ refuse 1 0 0 ∷ refuse 2 0 0 ∷ refuse 3 1 0 ∷ refuse 4 1 0 ∷ refuse 4 5 0 ∷ refuse 5 1 (firstBad P N A) ∷ []
   pub apply : (x d : List ℕ) → ladder (applyChecks P N A x d)
-      ≡ refuse 1 0 0 ∷ refuse 2 0 0 ∷ refuse 3 1 0 ∷ refuse 4 1 0 ∷ refuse 4 3 0 ∷ refuse 4 5 0 ∷ refuse 5 1 (firstBad P N A) ∷ refuse 5 3 (firstBadPlace P N x) ∷ []
+      ≡ refuse 1 0 0 ∷ refuse 2 0 0 ∷ refuse 3 1 0 ∷ refuse 4 1 0 ∷ refuse 4 3 0 ∷ refuse 4 5 0 ∷ refuse 5 1 (firstBad P N A)
+      ∷ refuse 5 3 (firstBadPlace P N x) ∷ []
   pub transpose : (d : List ℕ) → ladder (transposeChecks P N A d)
       ≡ refuse 1 0 0 ∷ refuse 2 0 0 ∷ refuse 3 1 0 ∷ refuse 4 1 0 ∷ refuse 4 5 0 ∷ refuse 5 1 (firstBad P N A) ∷ []
   pub multiple : (c : ℕ) (d : List ℕ) → ladder (multipleChecks P N A c d)
       ≡ refuse 1 0 0 ∷ refuse 2 0 0 ∷ refuse 3 1 0 ∷ refuse 4 1 0 ∷ refuse 4 5 0 ∷ refuse 5 0 0 ∷ refuse 5 1 (firstBad P N A) ∷ []
   -- sum and product
   pub pair : (B : Table) (d : List ℕ) → ladder (pairChecks P N A B d)
-      ≡ refuse 1 0 0 ∷ refuse 2 0 0 ∷ refuse 3 1 0 ∷ refuse 3 2 0 ∷ refuse 6 0 0 ∷ refuse 4 1 0 ∷ refuse 4 2 0 ∷ refuse 4 5 0 ∷ refuse 5 1 (firstBad P N A) ∷ refuse 5 2 (firstBad P N B) ∷ []
+      ≡ refuse 1 0 0 ∷ refuse 2 0 0 ∷ refuse 3 1 0 ∷ refuse 3 2 0 ∷ refuse 6 0 0 ∷ refuse 4 1 0 ∷ refuse 4 2 0 ∷ refuse 4 5 0 ∷ refuse 5 1 (firstBad P N A)
+      ∷ refuse 5 2 (firstBad P N B) ∷ []
   pub solve : (x v d : List ℕ) → ladder (solveChecks P N A x v d)
-      ≡ refuse 1 0 0 ∷ refuse 2 0 0 ∷ refuse 3 1 0 ∷ refuse 4 1 0 ∷ refuse 4 3 0 ∷ refuse 4 4 0 ∷ refuse 4 5 0 ∷ refuse 5 1 (firstBad P N A) ∷ refuse 5 3 (firstBadPlace P N x) ∷ refuse 7 1 (firstZero P N A) ∷ []
+      ≡ refuse 1 0 0 ∷ refuse 2 0 0 ∷ refuse 3 1 0 ∷ refuse 4 1 0 ∷ refuse 4 3 0 ∷ refuse 4 4 0 ∷ refuse 4 5 0 ∷ refuse 5 1 (firstBad P N A)
+      ∷ refuse 5 3 (firstBadPlace P N x) ∷ refuse 7 1 (firstZero P N A) ∷ []
   pub inverse : (d : List ℕ) → ladder (inverseChecks P N A d)
       ≡ refuse 1 0 0 ∷ refuse 2 0 0 ∷ refuse 3 1 0 ∷ refuse 4 1 0 ∷ refuse 4 5 0 ∷ refuse 5 1 (firstBad P N A) ∷ refuse 7 1 (firstZero P N A) ∷ []
   pub write : (f : List ℕ) → ladder (writeChecks P N A f)
       ≡ refuse 1 0 0 ∷ refuse 2 0 0 ∷ refuse 3 1 0 ∷ refuse 4 1 0 ∷ refuse 4 6 0 ∷ refuse 5 1 (firstBad P N A) ∷ []
   pub read : (f d : List ℕ) → ladder (readChecks f d)
-      ≡ refuse 9 6 0 ∷ refuse 1 0 0 ∷ refuse 2 0 0 ∷ refuse 3 6 0 ∷ refuse 9 6 0 ∷ refuse 4 5 0 ∷ refuse 10 6 (firstBroken f - 1) ∷ refuse 5 6 (firstBadInFile f) ∷ []
+      ≡ refuse 9 6 0 ∷ refuse 1 0 0 ∷ refuse 2 0 0 ∷ refuse 3 6 0 ∷ refuse 9 6 0 ∷ refuse 4 5 0 ∷ refuse 10 6 (firstBroken f - 1)
+      ∷ refuse 5 6 (firstBadInFile f) ∷ []
 
 -- "Each refusal is given where its cause holds and no earlier one does, and nowhere else."
 pub record Refused : Type 0 where
@@ -185,10 +199,12 @@ pub record PackedReplies (P N : ℕ) (A : Table) : Type 0 where
 pub record Agrees (P N : ℕ) (A : Table) : Type 0 where
   pub entry : (i j : ℕ) → Accepted (entryReply P N A i j) → entryReply P N A i j ≡ accept (val P (matrixOf P N A (i - 1) (j - 1)))
   pub whole : (d : List ℕ) → Accepted (matrixReply P N A d) → (i j : ℕ) → i < N → j < N → getD (matrixAfter P N A d) (i * N + j) 0 ≡ val P (matrixOf P N A i j)
-  pub apply : (x d : List ℕ) → Accepted (applyReply P N A x d) → (k : ℕ) → k < N → getD (applyAfter P N A x d) k 0 ≡ val P (sends (residues P) N (matrixOf P N A) (column P x) k)
+  pub apply : (x d : List ℕ) → Accepted (applyReply P N A x d) → (k : ℕ) → k < N
+      → getD (applyAfter P N A x d) k 0 ≡ val P (sends (residues P) N (matrixOf P N A) (column P x) k)
   pub apply-transposed : (x d : List ℕ) → Accepted (applyReply P N A x d) → (k : ℕ) → k < N
       → getD (applyTransposedAfter P N A x d) k 0 ≡ val P (sends (residues P) N (λ i j. matrixOf P N A j i) (column P x) k)
-  pub multiple : (c : ℕ) (d : List ℕ) → Accepted (multipleReply P N A c d) → Same (residues P) N (matrixOf P N (multipleT P N A c d)) (λ i j. residues P .mul (res P c) (matrixOf P N A i j))
+  pub multiple : (c : ℕ) (d : List ℕ) → Accepted (multipleReply P N A c d)
+      → Same (residues P) N (matrixOf P N (multipleT P N A c d)) (λ i j. residues P .mul (res P c) (matrixOf P N A i j))
   pub transpose : (d : List ℕ) → Accepted (transposeReply P N A d) → Same (residues P) N (matrixOf P N (transposeT P N A d)) (λ i j. matrixOf P N A j i)
   -- the work buffer of solve holds v of the rows but the last, then zeros
   pub work : (x v d : List ℕ) → Accepted (solveReply P N A x v d) → (k j : ℕ) → suc k < N → j < A .upper
@@ -204,14 +220,16 @@ pub record Uninfluenced (P N : ℕ) (A A′ : Table) : Type 0 where
   pub matrix : matrixOf P N A ≡ matrixOf P N A′
   pub entry : (i j : ℕ) → entryReply P N A i j ≡ entryReply P N A′ i j
   pub whole : (d : List ℕ) → (matrixReply P N A d ≡ matrixReply P N A′ d) × (matrixAfter P N A d ≡ matrixAfter P N A′ d)
-  pub apply : (x d : List ℕ) → (applyReply P N A x d ≡ applyReply P N A′ x d) × (applyAfter P N A x d ≡ applyAfter P N A′ x d) × (applyTransposedAfter P N A x d ≡ applyTransposedAfter P N A′ x d)
+  pub apply : (x d : List ℕ) → (applyReply P N A x d ≡ applyReply P N A′ x d) × (applyAfter P N A x d ≡ applyAfter P N A′ x d)
+      × (applyTransposedAfter P N A x d ≡ applyTransposedAfter P N A′ x d)
   pub transpose : (d : List ℕ) → (transposeReply P N A d ≡ transposeReply P N A′ d) × (transposeAfter P N A d ≡ transposeAfter P N A′ d)
   pub multiple : (c : ℕ) (d : List ℕ) → (multipleReply P N A c d ≡ multipleReply P N A′ c d) × (multipleAfter P N A c d ≡ multipleAfter P N A′ c d)
   pub sum-left : (B : Table) (d : List ℕ) → (sumReply P N A B d ≡ sumReply P N A′ B d) × (sumAfter P N A B d ≡ sumAfter P N A′ B d)
   pub sum-right : (B : Table) (d : List ℕ) → (sumReply P N B A d ≡ sumReply P N B A′ d) × (sumAfter P N B A d ≡ sumAfter P N B A′ d)
   pub product-left : (B : Table) (d : List ℕ) → (productReply P N A B d ≡ productReply P N A′ B d) × (productAfter P N A B d ≡ productAfter P N A′ B d)
   pub product-right : (B : Table) (d : List ℕ) → (productReply P N B A d ≡ productReply P N B A′ d) × (productAfter P N B A d ≡ productAfter P N B A′ d)
-  pub solve : (x v d : List ℕ) → (solveReply P N A x v d ≡ solveReply P N A′ x v d) × (solveAfter P N A x v d ≡ solveAfter P N A′ x v d) × (workAfter P N A x v d ≡ workAfter P N A′ x v d)
+  pub solve : (x v d : List ℕ) → (solveReply P N A x v d ≡ solveReply P N A′ x v d) × (solveAfter P N A x v d ≡ solveAfter P N A′ x v d)
+      × (workAfter P N A x v d ≡ workAfter P N A′ x v d)
   pub inverse : (d : List ℕ) → (inverseReply P N A d ≡ inverseReply P N A′ d) × (inverseAfter P N A d ≡ inverseAfter P N A′ d)
   pub write : (f : List ℕ) → (writeReply P N A f ≡ writeReply P N A′ f) × (writeAfter P N A f ≡ writeAfter P N A′ f)
 
@@ -221,8 +239,10 @@ UnusedInfluenceNothing = (P N : ℕ) (A : Table) (t : List ℕ) → SameUsed N A
     → Uninfluenced P N A (withWords A t)
 
 pub record ColumnSurplus (P N : ℕ) (A : Table) (x x′ : List ℕ) : Type 0 where
-  pub apply : (d : List ℕ) → (applyReply P N A x d ≡ applyReply P N A x′ d) × (applyAfter P N A x d ≡ applyAfter P N A x′ d) × (applyTransposedAfter P N A x d ≡ applyTransposedAfter P N A x′ d)
-  pub solve : (v d : List ℕ) → (solveReply P N A x v d ≡ solveReply P N A x′ v d) × (solveAfter P N A x v d ≡ solveAfter P N A x′ v d) × (workAfter P N A x v d ≡ workAfter P N A x′ v d)
+  pub apply : (d : List ℕ) → (applyReply P N A x d ≡ applyReply P N A x′ d) × (applyAfter P N A x d ≡ applyAfter P N A x′ d)
+      × (applyTransposedAfter P N A x d ≡ applyTransposedAfter P N A x′ d)
+  pub solve : (v d : List ℕ) → (solveReply P N A x v d ≡ solveReply P N A x′ v d) × (solveAfter P N A x v d ≡ solveAfter P N A x′ v d)
+      × (workAfter P N A x v d ≡ workAfter P N A x′ v d)
 
 abbrev pub SurplusInfluencesNothing : Type 0
 SurplusInfluencesNothing = (P N : ℕ) (A : Table) (x x′ : List ℕ) → SameColumn N x x′ → short x N ≡ short x′ N → ColumnSurplus P N A x x′
@@ -254,7 +274,8 @@ pub record Writes (P N : ℕ) (A : Table) (file : List ℕ) : Type 0 where
   pub chain : (k : ℕ) → k < N → met file k ≡ suc k
   pub end : met file N ≡ 0
   pub used : (k : ℕ) (κ : Kind) (i j : ℕ) → Used N (A .lower) (A .upper) k κ i j → fileRowWord file k κ i j ≡ tableWord A k κ i j
-  pub unused : (k : ℕ) (κ : Kind) (i j : ℕ) → k < N → Room (A .lower) (A .upper) κ i j → (Used N (A .lower) (A .upper) k κ i j → ⊥) → fileRowWord file k κ i j ≡ 0
+  pub unused : (k : ℕ) (κ : Kind) (i j : ℕ) → k < N → Room (A .lower) (A .upper) κ i j → (Used N (A .lower) (A .upper) k κ i j → ⊥)
+      → fileRowWord file k κ i j ≡ 0
 
 -- "A row file written from a table reads back as that table, with the unused words zero."
 pub record ReadsBack (P N : ℕ) (A : Table) (file d : List ℕ) : Type 0 where
@@ -295,7 +316,8 @@ pub record Permuted (π : ℕ → ℕ) (f f′ : List ℕ) : Type 0 where
 
 -- "the k-th record met is row k": a file whose records are permuted with their chain reads as the same table
 abbrev pub PermutedReadsSame : Type 0
-PermutedReadsSame = (π : ℕ → ℕ) (f f′ d : List ℕ) → Permuted π f f′ → Accepted (readReply f d) → (readReply f′ d ≡ readReply f d) × (readAfter f′ d ≡ readAfter f d)
+PermutedReadsSame = (π : ℕ → ℕ) (f f′ d : List ℕ) → Permuted π f f′ → Accepted (readReply f d)
+    → (readReply f′ d ≡ readReply f d) × (readAfter f′ d ≡ readAfter f d)
 
 -- 3. "A generator table obeys the algebra of the matrix it stands for. Whatever tables and columns are handed in, wherever the calls accept:"
 module _ (P N : ℕ) where
@@ -324,26 +346,37 @@ module _ (P N : ℕ) where
     pub sum : (A B : Table) (d : List ℕ) → SumAccepts A B d → Same (residues P) N (mat (sumT P N A B d)) (plusM (residues P) (mat A) (mat B))
     pub product : (A B : Table) (d : List ℕ) → ProductAccepts A B d → Same (residues P) N (mat (productT P N A B d)) (timesM (residues P) N (mat A) (mat B))
     -- "the inverse's matrix times the table's is the identity, on either side;"
-    pub inverse-left : (A : Table) (d : List ℕ) → Accepted (inverseReply P N A d) → Same (residues P) N (timesM (residues P) N (mat (inverseT P N A d)) (mat A)) (identity (residues P))
-    pub inverse-right : (A : Table) (d : List ℕ) → Accepted (inverseReply P N A d) → Same (residues P) N (timesM (residues P) N (mat A) (mat (inverseT P N A d))) (identity (residues P))
+    pub inverse-left : (A : Table) (d : List ℕ) → Accepted (inverseReply P N A d)
+        → Same (residues P) N (timesM (residues P) N (mat (inverseT P N A d)) (mat A)) (identity (residues P))
+    pub inverse-right : (A : Table) (d : List ℕ) → Accepted (inverseReply P N A d)
+        → Same (residues P) N (timesM (residues P) N (mat A) (mat (inverseT P N A d))) (identity (residues P))
     -- "applying a product gives the same column as applying the right factor, then the left;"
-    pub applied : (A B : Table) (c x e f g : List ℕ) → ProductAccepts A B c → ApplyAccepts (productT P N A B c) x e → ApplyAccepts B x f → ApplyAccepts A (applyAfter P N B x f) g
+    pub applied : (A B : Table) (c x e f g : List ℕ) → ProductAccepts A B c → ApplyAccepts (productT P N A B c) x e → ApplyAccepts B x f
+        → ApplyAccepts A (applyAfter P N B x f) g
         → SameColumn N (applyAfter P N (productT P N A B c) x e) (applyAfter P N A (applyAfter P N B x f) g)
     -- "for every list of factors, all groupings in that order stand for the same matrix;"
-    pub groupings : (g h : Grouping) → firstFactor g ≡ firstFactor h → otherFactors g ≡ otherFactors h → AllAccept P N g → AllAccept P N h → Alike (grouped P N g) (grouped P N h)
+    pub groupings : (g h : Grouping) → firstFactor g ≡ firstFactor h → otherFactors g ≡ otherFactors h → AllAccept P N g → AllAccept P N h
+        → Alike (grouped P N g) (grouped P N h)
     -- "and so do a product by a sum, on either side, and the sum of the products."
-    pub product-by-sum : (A B C : Table) (c d e f g : List ℕ) → SumAccepts B C c → ProductAccepts A (sumT P N B C c) d → ProductAccepts A B e → ProductAccepts A C f → SumAccepts (productT P N A B e) (productT P N A C f) g
+    pub product-by-sum : (A B C : Table) (c d e f g : List ℕ) → SumAccepts B C c → ProductAccepts A (sumT P N B C c) d → ProductAccepts A B e
+        → ProductAccepts A C f → SumAccepts (productT P N A B e) (productT P N A C f) g
         → Alike (productT P N A (sumT P N B C c) d) (sumT P N (productT P N A B e) (productT P N A C f) g)
-    pub sum-by-product : (A B C : Table) (c d e f g : List ℕ) → SumAccepts A B c → ProductAccepts (sumT P N A B c) C d → ProductAccepts A C e → ProductAccepts B C f → SumAccepts (productT P N A C e) (productT P N B C f) g
+    pub sum-by-product : (A B C : Table) (c d e f g : List ℕ) → SumAccepts A B c → ProductAccepts (sumT P N A B c) C d → ProductAccepts A C e
+        → ProductAccepts B C f → SumAccepts (productT P N A C e) (productT P N B C f) g
         → Alike (productT P N (sumT P N A B c) C d) (sumT P N (productT P N A C e) (productT P N B C f) g)
     -- "An accepted solve returns a column that the table sends to the given one, and every other column is sent elsewhere."
-    pub solve : (A : Table) (x v d : List ℕ) → Accepted (solveReply P N A x v d) → (k : ℕ) → k < N → sends (residues P) N (mat A) (column P (solveAfter P N A x v d)) k ≡ column P x k
-    pub solve-words : (A : Table) (x v d : List ℕ) → Accepted (solveReply P N A x v d) → (k : ℕ) → k < N → val P (sends (residues P) N (mat A) (column P (solveAfter P N A x v d)) k) ≡ getD x k 0
+    pub solve : (A : Table) (x v d : List ℕ) → Accepted (solveReply P N A x v d) → (k : ℕ) → k < N
+        → sends (residues P) N (mat A) (column P (solveAfter P N A x v d)) k ≡ column P x k
+    pub solve-words : (A : Table) (x v d : List ℕ) → Accepted (solveReply P N A x v d) → (k : ℕ) → k < N
+        → val P (sends (residues P) N (mat A) (column P (solveAfter P N A x v d)) k) ≡ getD x k 0
     pub solve-only : (A : Table) (x v d : List ℕ) → Accepted (solveReply P N A x v d) → (y : ℕ → residues P .car)
         → ((k : ℕ) → k < N → sends (residues P) N (mat A) y k ≡ column P x k) → (k : ℕ) → k < N → y k ≡ column P (solveAfter P N A x v d) k
-    -- "With no earlier fault of the paper's table, solve and inverse are refused as singular at row k exactly when the leading k by k corner sends some column, not all zeros, to zeros, and no smaller leading corner does."
-    pub solve-singular : (A : Table) (x v d : List ℕ) → NoFault (solveEarlier P N A x v d) → (k : ℕ) → (solveReply P N A x v d ≡ refuse 7 1 k) ↔ LeastSingular (residues P) N (mat A) k
-    pub inverse-singular : (A : Table) (d : List ℕ) → NoFault (inverseEarlier P N A d) → (k : ℕ) → (inverseReply P N A d ≡ refuse 7 1 k) ↔ LeastSingular (residues P) N (mat A) k
+    -- "With no earlier fault of the paper's table, solve and inverse are refused as singular at row k exactly when the leading k by k corner sends
+    -- some column, not all zeros, to zeros, and no smaller leading corner does."
+    pub solve-singular : (A : Table) (x v d : List ℕ) → NoFault (solveEarlier P N A x v d) → (k : ℕ) → (solveReply P N A x v d ≡ refuse 7 1 k)
+        ↔ LeastSingular (residues P) N (mat A) k
+    pub inverse-singular : (A : Table) (d : List ℕ) → NoFault (inverseEarlier P N A d) → (k : ℕ) → (inverseReply P N A d ≡ refuse 7 1 k)
+        ↔ LeastSingular (residues P) N (mat A) k
     -- and accepted exactly when no leading corner does
     pub solve-accepted : (A : Table) (x v d : List ℕ) → NoFault (solveEarlier P N A x v d) → Accepted (solveReply P N A x v d) ↔ NoneSingular P N A
     pub inverse-accepted : (A : Table) (d : List ℕ) → NoFault (inverseEarlier P N A d) → Accepted (inverseReply P N A d) ↔ NoneSingular P N A

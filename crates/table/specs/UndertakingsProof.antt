@@ -17,21 +17,29 @@ use Rattle.field.specs.Residue.{residues, res, val, val-below, prime-pos}
 use Rattle.table.specs.Limits.{housePrime}
 use Rattle.lists.specs.Lists.{tabulate, rowsOf, firstOf}
 use Rattle.lists.specs.ListLaws.{getD-here, getD-tabulate, length-tabulate, length-rows, getD-rows-more, tabulate-same, same-first}
-use Rattle.table.specs.Words.{Table, table, withWords, gap, width, place, gens, matrixOf, rowGens, tableWords, badRow, firstBad, firstBadPlace, Used, SameUsed, SameColumn}
+use Rattle.table.specs.Words.{Table, table, withWords, gap, width, place, gens, matrixOf, rowGens, tableWords, badRow, firstBad, firstBadPlace, Used}
+use Rattle.table.specs.Words.{SameUsed, SameColumn}
 use Rattle.table.specs.WordLaws.{width-swap, idle-unused, place-lt, room, written, written-unused, written-good, length-table}
 use Rattle.table.specs.WordLaws.{gens-same, firstBad-same, matrix-same, row-same, bad-same, bad-first, bad-none}
 use Rattle.table.specs.WordLaws.{place-first, place-none, place-good, place-same}
-use Rattle.table.specs.RowFile.{fileBytes, bytesOf, primeOf, headP, headN, headR, headS, fileWord, recordAt, met, broken, firstBroken, fileRowWord, fileGens, firstBadInFile, fileWordsOf, fileWords, readW, writeW}
+use Rattle.table.specs.RowFile.{fileBytes, bytesOf, primeOf, headP, headN, headR, headS, fileWord, recordAt, met, broken, firstBroken, fileRowWord}
+use Rattle.table.specs.RowFile.{fileGens, firstBadInFile, fileWordsOf, fileWords, readW, writeW}
 use Rattle.table.specs.RowFileLaws.{chain-first, chain-none, is-right, right-met, right-end, file-bad-first, file-bad-none, below-tabulate, below-rows}
 use Rattle.table.specs.FileLaws.{left-length, writes-file, reads-back, read-length, read-chain, reads-file}
-use Rattle.table.specs.Results.{column, entryW, matrixW, applyW, applyTransposedW, sumW, productW, inverseW, solveW, workW, multipleW, transposeW, firstZero, pivotW}
+use Rattle.table.specs.Results.{column, entryW, matrixW, applyW, applyTransposedW, sumW, productW, inverseW, solveW, workW, multipleW, transposeW}
+use Rattle.table.specs.Results.{firstZero, pivotW}
 use Rattle.table.specs.Replies.{Reply, Accepted, accept, after, short}
-use Rattle.table.specs.Calls.{tableLength, entryChecks, entryReply, matrixChecks, matrixReply, matrixAfter, applyChecks, applyReply, applyAfter, applyTransposedAfter, transposeChecks, transposeReply, transposeAfter, multipleChecks, multipleReply, multipleAfter, pairChecks, sumReply, sumAfter, productReply, productAfter, solveChecks, solveReply, solveAfter, workAfter, inverseChecks, inverseReply, inverseAfter, writeChecks, writeReply, writeAfter, readChecks, readReply, readAfter, transposeT, multipleT}
+use Rattle.table.specs.Calls.{tableLength, entryChecks, entryReply, matrixChecks, matrixReply, matrixAfter, applyChecks, applyReply, applyAfter}
+use Rattle.table.specs.Calls.{applyTransposedAfter, transposeChecks, transposeReply, transposeAfter, multipleChecks, multipleReply, multipleAfter}
+use Rattle.table.specs.Calls.{pairChecks, sumReply, sumAfter, productReply, productAfter, solveChecks, solveReply, solveAfter, workAfter, inverseChecks}
+use Rattle.table.specs.Calls.{inverseReply, inverseAfter, writeChecks, writeReply, writeAfter, readChecks, readReply, readAfter, transposeT, multipleT}
 use Rattle.table.specs.CallLaws.{given, refused-by, open-checks, value-is, kept, after-is, after-length, surplus}
 use Rattle.table.specs.AcceptsProof.{causes, accepts, read-accepts, order}
 use Rattle.table.specs.AlgebraProof.{applied-word, solved-column, algebra}
 use Rattle.table.specs.PackedProof.{replies}
-use Rattle.table.specs.Undertakings.{First, Second, Third, Refused, Lengths, Keeps, Untouched, Values, Agrees, Uninfluenced, UnusedInfluenceNothing, ColumnSurplus, SurplusInfluencesNothing, Readable, WrittenAgain, SameFile, FileUnusedInfluenceNothing, Permuted, PermutedReadsSame}
+use Rattle.table.specs.Undertakings.{First, Second, Third, Refused, Lengths, Keeps, Untouched, Values, Agrees, Uninfluenced, UnusedInfluenceNothing}
+use Rattle.table.specs.Undertakings.{ColumnSurplus, SurplusInfluencesNothing, Readable, WrittenAgain, SameFile, FileUnusedInfluenceNothing, Permuted}
+use Rattle.table.specs.Undertakings.{PermutedReadsSame}
 
 pub refused : Refused
 refused = record {
@@ -70,13 +78,15 @@ module _ (P N : ℕ) (A : Table) where
   unfolding inverseW
   inverse-length = length-table P N (A .lower) (A .upper) _ []
 
-  sum-length : (B : Table) → (length (sumW P N A B) ≡ N * width (A .lower + B .lower) (A .upper + B .upper)) × (length (productW P N A B) ≡ N * width (A .lower + B .lower) (A .upper + B .upper))
+  sum-length : (B : Table) → (length (sumW P N A B) ≡ N * width (A .lower + B .lower) (A .upper + B .upper))
+      × (length (productW P N A B) ≡ N * width (A .lower + B .lower) (A .upper + B .upper))
   unfolding sumW productW
   sum-length B = (length-table P N _ _ _ [], length-table P N _ _ _ [])
 
   work-length : 1 ≤ N → length (workW P N A) ≡ N * A .upper
   unfolding workW
-  work-length h = length-append (rowsOf (N - 1) _) (tabulate (A .upper) (λ j. 0)) ∙ ap₂ _+_ (length-rows _ (A .upper) (λ k. length-tabulate (A .upper) _) (N - 1)) (length-tabulate (A .upper) _) ∙ more N h
+  work-length h = length-append (rowsOf (N - 1) _) (tabulate (A .upper) (λ j. 0))
+      ∙ ap₂ _+_ (length-rows _ (A .upper) (λ k. length-tabulate (A .upper) _) (N - 1)) (length-tabulate (A .upper) _) ∙ more N h
     where
       more : (n : ℕ) → 1 ≤ n → (n - 1) * A .upper + A .upper ≡ n * A .upper
       more zero h = absurd (omega arith)
@@ -86,13 +96,16 @@ module _ (P N : ℕ) (A : Table) where
   lengths = record {
     matrix = λ d. after-length (matrixReply P N A d) (matrixW P N A) d (λ ok. omega (arith, matrix-length, accepts P N A .matrix d .0 ok .2));
     apply = λ x d. after-length (applyReply P N A x d) (applyW P N A x) d (λ ok. omega (arith, apply-length x .0, accepts P N A .apply x d .0 ok .3));
-    apply-transposed = λ x d. after-length (applyReply P N A x d) (applyTransposedW P N A x) d (λ ok. omega (arith, apply-length x .1, accepts P N A .apply x d .0 ok .3));
+    apply-transposed = λ x d. after-length (applyReply P N A x d) (applyTransposedW P N A x) d
+        (λ ok. omega (arith, apply-length x .1, accepts P N A .apply x d .0 ok .3));
     transpose = λ d. after-length (transposeReply P N A d) (transposeW P N A) d (λ ok. omega (arith, transpose-length, accepts P N A .transpose d .0 ok .2));
-    multiple = λ c d. after-length (multipleReply P N A c d) (multipleW P N A c) d (λ ok. omega (arith, multiple-length c, accepts P N A .multiple c d .0 ok .3));
+    multiple = λ c d. after-length (multipleReply P N A c d) (multipleW P N A c) d
+        (λ ok. omega (arith, multiple-length c, accepts P N A .multiple c d .0 ok .3));
     sum = λ B d. after-length (sumReply P N A B d) (sumW P N A B) d (λ ok. omega (arith, sum-length B .0, accepts P N A .sum B d .0 ok .4));
     product = λ B d. after-length (productReply P N A B d) (productW P N A B) d (λ ok. omega (arith, sum-length B .1, accepts P N A .product B d .0 ok .4));
     solve = λ x v d. after-length (solveReply P N A x v d) (solveW P N A x) d (λ ok. omega (arith, apply-length x .2, accepts P N A .solve x v d .0 ok .4));
-    work = λ x v d. after-length (solveReply P N A x v d) (workW P N A) v (λ ok. let g = accepts P N A .solve x v d .0 ok in omega (arith, work-length (g .0 .2), g .3));
+    work = λ x v d. after-length (solveReply P N A x v d) (workW P N A) v (λ ok. let g = accepts P N A .solve x v d .0 ok in
+        omega (arith, work-length (g .0 .2), g .3));
     inverse = λ d. after-length (inverseReply P N A d) (inverseW P N A) d (λ ok. omega (arith, inverse-length, accepts P N A .inverse d .0 ok .2));
     write = λ f. after-length (writeReply P N A f) (writeW P N A) f (λ ok. omega (arith, left-length P N A f ok, accepts P N A .write f .0 ok .2));
     read = λ f d. after-length (readReply f d) (readW f) d (λ ok. omega (arith, read-length f, read-accepts f d .0 ok .4));
@@ -137,19 +150,22 @@ module _ (P N : ℕ) (A : Table) where
   unfolding entryReply entryW
   entry-value i j = value-is (entryChecks P N A i j) _ refl
 
-  matrix-word : (d : List ℕ) → Accepted (matrixReply P N A d) → (i j : ℕ) → i < N → j < N → getD (matrixAfter P N A d) (i * N + j) 0 ≡ val P (matrixOf P N A i j)
+  matrix-word : (d : List ℕ) → Accepted (matrixReply P N A d) → (i j : ℕ) → i < N → j < N
+      → getD (matrixAfter P N A d) (i * N + j) 0 ≡ val P (matrixOf P N A i j)
   unfolding matrixW
   matrix-word d ok i j hi hj =
       ap (λ (w : List ℕ). getD w (i * N + j) 0) (after-is (matrixReply P N A d) (matrixW P N A) d ok)
       ∙ getD-rows-more (λ i. tabulate N (λ j. val P (matrixOf P N A i j))) N (λ k. length-tabulate N _) N i j _ hi hj
       ∙ getD-tabulate N (λ j. val P (matrixOf P N A i j)) j hj
 
-  transposed-word : (x d : List ℕ) → Accepted (applyReply P N A x d) → (k : ℕ) → k < N → getD (applyTransposedAfter P N A x d) k 0 ≡ val P (sends (residues P) N (λ i j. matrixOf P N A j i) (column P x) k)
+  transposed-word : (x d : List ℕ) → Accepted (applyReply P N A x d) → (k : ℕ) → k < N
+      → getD (applyTransposedAfter P N A x d) k 0 ≡ val P (sends (residues P) N (λ i j. matrixOf P N A j i) (column P x) k)
   unfolding applyTransposedW
   transposed-word x d ok k h = ap (λ (w : List ℕ). getD w k 0) (after-is (applyReply P N A x d) (applyTransposedW P N A x) d ok)
       ∙ getD-here N (λ k. val P (sends (residues P) N (λ i j. matrixOf P N A j i) (column P x) k)) _ k h
 
-  multiple-stands : (c : ℕ) (d : List ℕ) → Accepted (multipleReply P N A c d) → Same (residues P) N (matrixOf P N (multipleT P N A c d)) (λ i j. residues P .mul (res P c) (matrixOf P N A i j))
+  multiple-stands : (c : ℕ) (d : List ℕ) → Accepted (multipleReply P N A c d)
+      → Same (residues P) N (matrixOf P N (multipleT P N A c d)) (λ i j. residues P .mul (res P c) (matrixOf P N A i j))
   unfolding multipleW matrixOf
   multiple-stands c d ok i j hi hj =
       ap (λ (w : List ℕ). matrixOf P N (withWords A w) i j) (after-is (multipleReply P N A c d) (multipleW P N A c) d ok)
@@ -178,7 +194,8 @@ module _ (P N : ℕ) (A : Table) where
   work-last x v d ok j hj =
       ap (λ (w : List ℕ). getD w ((N - 1) * A .upper + j) 0) (after-is (solveReply P N A x v d) (workW P N A) v ok
       ∙ append-assoc (rowsOf (N - 1) vRow) (tabulate (A .upper) (λ j. 0)) _)
-      ∙ ap (λ (n : ℕ). getD (rowsOf (N - 1) vRow ++ (tabulate (A .upper) (λ j. 0) ++ drop (length (workW P N A)) v)) (n + j) 0) (sym (length-rows vRow (A .upper) (λ k. length-tabulate (A .upper) _) (N - 1)))
+      ∙ ap (λ (n : ℕ). getD (rowsOf (N - 1) vRow ++ (tabulate (A .upper) (λ j. 0) ++ drop (length (workW P N A)) v)) (n + j) 0)
+      (sym (length-rows vRow (A .upper) (λ k. length-tabulate (A .upper) _) (N - 1)))
       ∙ getD-append-add (rowsOf (N - 1) vRow) (tabulate (A .upper) (λ j. 0) ++ drop (length (workW P N A)) v) j 0
       ∙ getD-here (A .upper) (λ j. 0) (drop (length (workW P N A)) v) j hj
 
@@ -199,14 +216,23 @@ module _ (P N : ℕ) (A : Table) where
   again y r s c d ok pos = rw (after-is y (tableWords P N r s c) d ok) (written-unused P N r s c _, written-good P N r s c _ pos)
 
   column-again : (y : Reply) (x : ℕ → residues P .car) (d : List ℕ) → Accepted y → 0 < P → firstBadPlace P N (after y (tabulate N (λ k. val P (x k))) d) ≡ 0
-  column-again y x d ok pos = place-good P N _ (λ k h. rw (after-is y (tabulate N (λ k. val P (x k))) d ok, getD-here N (λ k. val P (x k)) (drop (length (tabulate N (λ k. val P (x k)))) d) k h) (val-below P pos (x k)))
+  column-again y x d ok pos =
+      place-good P N _ (λ k h. rw (
+        after-is y (tabulate N (λ k. val P (x k))) d ok,
+        getD-here N (λ k. val P (x k)) (drop (length (tabulate N (λ k. val P (x k)))) d) k h,
+      ) (val-below P pos (x k)))
 
   whole-again : (d : List ℕ) → Accepted (matrixReply P N A d) → (i : ℕ) → i < N * N → getD (matrixAfter P N A d) i 0 < P
   unfolding matrixW
   whole-again d ok i h =
       let pos = prime-pos P (accepts P N A .matrix d .0 ok .0 .0) in
-      rw (after-is (matrixReply P N A d) (matrixW P N A) d ok, List·getD-append (matrixW P N A) (drop (length (matrixW P N A)) d) 0 i (omega (arith, matrix-length)))
-      (below-rows P pos N (λ i. tabulate N (λ j. val P (matrixOf P N A i j))) (λ k l. below-tabulate P pos N (λ j. val P (matrixOf P N A k j)) (λ j. val-below P pos (matrixOf P N A k j))) i)
+      rw (
+        after-is (matrixReply P N A d) (matrixW P N A) d ok,
+        List·getD-append (matrixW P N A) (drop (length (matrixW P N A)) d) 0 i
+            (omega (arith, matrix-length)),
+      )
+      (below-rows P pos N (λ i. tabulate N (λ j. val P (matrixOf P N A i j)))
+      (λ k l. below-tabulate P pos N (λ j. val P (matrixOf P N A k j)) (λ j. val-below P pos (matrixOf P N A k j))) i)
 
   pub written-again : WrittenAgain P N A
   unfolding transposeW multipleW sumW productW inverseW applyW applyTransposedW solveW
@@ -244,7 +270,8 @@ module _ (P N : ℕ) (A : Table) (t : List ℕ) (u : SameUsed N A t) (l : short 
   unfolding matrixReply matrixW
   same-whole d = (rw (l, f), rw (l, f, m))
 
-  same-apply : (x d : List ℕ) → (applyReply P N A x d ≡ applyReply P N A′ x d) × (applyAfter P N A x d ≡ applyAfter P N A′ x d) × (applyTransposedAfter P N A x d ≡ applyTransposedAfter P N A′ x d)
+  same-apply : (x d : List ℕ) → (applyReply P N A x d ≡ applyReply P N A′ x d) × (applyAfter P N A x d ≡ applyAfter P N A′ x d)
+      × (applyTransposedAfter P N A x d ≡ applyTransposedAfter P N A′ x d)
   unfolding applyReply applyW applyTransposedW
   same-apply x d = (rw (l, f), rw (l, f, m), rw (l, f, m))
 
@@ -272,7 +299,8 @@ module _ (P N : ℕ) (A : Table) (t : List ℕ) (u : SameUsed N A t) (l : short 
   unfolding productReply productW
   same-product-right B d = (rw (l, f), rw (l, f, g))
 
-  same-solve : (x v d : List ℕ) → (solveReply P N A x v d ≡ solveReply P N A′ x v d) × (solveAfter P N A x v d ≡ solveAfter P N A′ x v d) × (workAfter P N A x v d ≡ workAfter P N A′ x v d)
+  same-solve : (x v d : List ℕ) → (solveReply P N A x v d ≡ solveReply P N A′ x v d) × (solveAfter P N A x v d ≡ solveAfter P N A′ x v d)
+      × (workAfter P N A x v d ≡ workAfter P N A′ x v d)
   unfolding solveReply solveW workW firstZero pivotW
   same-solve x v d = (rw (l, f, g), rw (l, f, g), rw (l, f, g))
 
@@ -320,8 +348,10 @@ module _ (P N : ℕ) (A : Table) (x x′ : List ℕ) (e : SameColumn N x x′) (
   same-words : (applyW P N A x ≡ applyW P N A x′) × (applyTransposedW P N A x ≡ applyTransposedW P N A x′)
   unfolding applyW applyTransposedW
   same-words = (
-    tabulate-same N _ _ (λ k h. ap (val P) (sends-same (residues P) N (matrixOf P N A) (matrixOf P N A) (column P x) (column P x′) (λ i j hi hj. refl) (λ k h. ap (res P) (e k h)) k h)),
-    tabulate-same N _ _ (λ k h. ap (val P) (sends-same (residues P) N (λ i j. matrixOf P N A j i) (λ i j. matrixOf P N A j i) (column P x) (column P x′) (λ i j hi hj. refl) (λ k h. ap (res P) (e k h)) k h)),
+    tabulate-same N _ _ (λ k h. ap (val P) (sends-same (residues P) N (matrixOf P N A) (matrixOf P N A) (column P x) (column P x′) (λ i j hi hj. refl)
+        (λ k h. ap (res P) (e k h)) k h)),
+    tabulate-same N _ _ (λ k h. ap (val P) (sends-same (residues P) N (λ i j. matrixOf P N A j i) (λ i j. matrixOf P N A j i) (column P x) (column P x′)
+        (λ i j hi hj. refl) (λ k h. ap (res P) (e k h)) k h)),
   )
 
   solve-reply-same : (v d : List ℕ) → solveReply P N A x v d ≡ solveReply P N A x′ v d
@@ -334,7 +364,8 @@ module _ (P N : ℕ) (A : Table) (x x′ : List ℕ) (e : SameColumn N x x′) (
   solve-words v d ok =
       let ok′ : Accepted (solveReply P N A x′ v d) = ap (λ (y : Reply). y .number) (sym (solve-reply-same v d)) ∙ ok in
       tabulate-same N _ _ (λ k h. ap (val P) (sym (solved-column P N A x v d ok k h)
-      ∙ sym (algebra P N .solve-only A x v d ok (column P (solveAfter P N A x′ v d)) (λ k h. algebra P N .solve A x′ v d ok′ k h ∙ sym (ap (res P) (e k h))) k h)
+      ∙ sym (algebra P N .solve-only A x v d ok (column P (solveAfter P N A x′ v d)) (λ k h. algebra P N .solve A x′ v d ok′ k h
+      ∙ sym (ap (res P) (e k h))) k h)
       ∙ solved-column P N A x′ v d ok′ k h))
 
   solve-after-same : (v d : List ℕ) → solveAfter P N A x v d ≡ solveAfter P N A x′ v d
@@ -387,7 +418,8 @@ module _ (f f′ : List ℕ) (long : length f ≡ length f′) (head : (i : ℕ)
 
   words-same : readW f ≡ readW f′
   unfolding readW fileGens
-  words-same = ap (tableWords (headP f) (headN f) (headR f) (headS f)) (fun-ext (λ k. row-same (headP f) (headN f) (headR f) (headS f) k (fileRowWord f k) (fileRowWord f′ k) (λ κ i j u. ap (res (headP f)) (rows k κ i j u))))
+  words-same = ap (tableWords (headP f) (headN f) (headR f) (headS f))
+      (fun-ext (λ k. row-same (headP f) (headN f) (headR f) (headS f) k (fileRowWord f k) (fileRowWord f′ k) (λ κ i j u. ap (res (headP f)) (rows k κ i j u))))
       ∙ ap₂ (λ (p n : ℕ). tableWords p n (headR f) (headS f) (λ k. rowGens p n (headR f) (headS f) k (fileRowWord f′ k))) hP hN
       ∙ ap₂ (λ (r s : ℕ). tableWords (headP f′) (headN f′) r s (λ k. rowGens (headP f′) (headN f′) r s k (fileRowWord f′ k))) hR hS
 
@@ -400,7 +432,8 @@ module _ (f f′ : List ℕ) (long : length f ≡ length f′) (head : (i : ℕ)
 
 chain-same : (f f′ : List ℕ) → SameFile f f′ → firstBroken f ≡ firstBroken f′
 unfolding firstBroken broken
-chain-same f f′ e = same-first (suc (headN f)) (broken f) (broken f′) 0 (λ k a b. broken-same k (omega arith)) ∙ ap (λ (n : ℕ). firstOf (suc n) (broken f′) 0) (e .head 1 (omega arith))
+chain-same f f′ e = same-first (suc (headN f)) (broken f) (broken f′) 0 (λ k a b. broken-same k (omega arith))
+    ∙ ap (λ (n : ℕ). firstOf (suc n) (broken f′) 0) (e .head 1 (omega arith))
   where
     broken-same : (k : ℕ) → k ≤ headN f → broken f k ≡ broken f′ k
     broken-same k h = rw (e .head 1 (omega arith), e .chain k h)
@@ -413,7 +446,8 @@ module _ (π : ℕ → ℕ) (f f′ : List ℕ) (e : Permuted π f f′) (right 
   met-permuted : (k : ℕ) → k ≤ headN f → met f′ k ≡ π (met f k)
   unfolding met
   met-permuted zero h = e .first
-  met-permuted (suc k) h = let z = right-met f right k h in ap (λ (m : ℕ). fileWord f′ (recordAt f′ m)) (met-permuted k (omega arith)) ∙ e .next (met f k) (z .0) (z .1)
+  met-permuted (suc k) h = let z = right-met f right k h in ap (λ (m : ℕ). fileWord f′ (recordAt f′ m)) (met-permuted k (omega arith))
+      ∙ e .next (met f k) (z .0) (z .1)
 
   right-permuted : firstBroken f′ ≡ 0
   right-permuted = is-right f′ inside (ap (met f′) (e .head 1 (omega arith)) ∙ met-permuted (headN f) (omega arith) ∙ ap π (right-end f right) ∙ e .end)
@@ -440,7 +474,17 @@ permuted-reads-same π f f′ d e ok =
     (sym (z .0), sym (z .1))
 
 pub first : First
-first = record { lengths = lengths; causes = causes; accepts = accepts; order = order; refused = refused; untouched = untouched; values = values; replies = replies }
+first = record {
+  lengths = lengths;
+  causes = causes;
+  accepts = accepts;
+  order = order;
+  refused = refused;
+  untouched = untouched;
+  values =
+      values;
+  replies = replies;
+}
 
 pub second : Second
 second = record {

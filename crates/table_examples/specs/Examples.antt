@@ -12,7 +12,9 @@ use Rattle.table.specs.Words.{Table, table, rowGens, gens, matrixOf, rowWords, 
 use Rattle.table.specs.Results.{entryW, matrixW, applyW, applyTransposedW, transposeW, multipleW, sumW, inverseW, pivotW, firstZero, solveW, workW, productW}
 use Rattle.table.specs.RowFile.{bytesOf, met, broken, firstBroken, fileGens, firstBadInFile, readW, fileWords, writeW}
 use Rattle.table.specs.Replies.{Reply, answer, accept, refuse}
-use Rattle.table.specs.Calls.{entryReply, matrixReply, applyReply, transposeReply, multipleReply, solveReply, inverseReply, writeReply, sumReply, productReply, readReply, matrixAfter, applyAfter, applyTransposedAfter, transposeAfter, multipleAfter, sumAfter, productAfter, workAfter, solveAfter, inverseAfter, writeAfter, readAfter, inverseT, productT}
+use Rattle.table.specs.Calls.{entryReply, matrixReply, applyReply, transposeReply, multipleReply, solveReply, inverseReply, writeReply, sumReply, productReply}
+use Rattle.table.specs.Calls.{readReply, matrixAfter, applyAfter, applyTransposedAfter, transposeAfter, multipleAfter, sumAfter, productAfter, workAfter}
+use Rattle.table.specs.Calls.{solveAfter, inverseAfter, writeAfter, readAfter, inverseT, productT}
 use Rattle.table.specs.Lister.{lister, text, digits}
 
 -- the four numbers of a reply
@@ -65,7 +67,8 @@ examples =
     --    its matrix
     ∷ (numbersOf (matrixReply 7 3 (productT 7 3 M M (lent 51)) (lent 9)) ∷ matrixAfter 7 3 (productT 7 3 M M (lent 51)) (lent 9) ∷ [])
     --    solving with it
-    ∷ (numbersOf (solveReply 7 3 (productT 7 3 M M (lent 51)) x445 (lent 6) (lent 3)) ∷ workAfter 7 3 (productT 7 3 M M (lent 51)) x445 (lent 6) (lent 3) ∷ solveAfter 7 3 (productT 7 3 M M (lent 51)) x445 (lent 6) (lent 3) ∷ [])
+    ∷ (numbersOf (solveReply 7 3 (productT 7 3 M M (lent 51)) x445 (lent 6) (lent 3)) ∷ workAfter 7 3 (productT 7 3 M M (lent 51)) x445 (lent 6) (lent 3)
+    ∷ solveAfter 7 3 (productT 7 3 M M (lent 51)) x445 (lent 6) (lent 3) ∷ [])
     -- 5. rows 1 1 and 1 0
     ∷ (numbersOf (matrixReply 7 2 E (lent 4)) ∷ matrixAfter 7 2 E (lent 4) ∷ [])
     --    the inverse
@@ -91,7 +94,8 @@ examples =
     -- M written
     ∷ (numbersOf (writeReply 7 3 M (lent 116)) ∷ writeAfter 7 3 M (lent 116) ∷ [])
     -- what the lister prints
-    ∷ (lister (bytesOf fileM) ∷ lister (bytesOf (101 ∷ 2 ∷ 0 ∷ 1 ∷ 2 ∷ 0 ∷ 0 ∷ 999 ∷ 999 ∷ 17 ∷ 1 ∷ 100 ∷ 55 ∷ 999 ∷ 999 ∷ [])) ∷ lister (bytesOf (7 ∷ 2 ∷ 0 ∷ 0 ∷ 1 ∷ 2 ∷ 6 ∷ 0 ∷ 7 ∷ [])) ∷ [])
+    ∷ (lister (bytesOf fileM) ∷ lister (bytesOf (101 ∷ 2 ∷ 0 ∷ 1 ∷ 2 ∷ 0 ∷ 0 ∷ 999 ∷ 999 ∷ 17 ∷ 1 ∷ 100 ∷ 55 ∷ 999 ∷ 999 ∷ []))
+    ∷ lister (bytesOf (7 ∷ 2 ∷ 0 ∷ 0 ∷ 1 ∷ 2 ∷ 6 ∷ 0 ∷ 7 ∷ [])) ∷ [])
     ∷ []
 
 abbrev outcomes : List (List (List ℕ))
@@ -111,7 +115,8 @@ outcomes =
     --    its matrix
     ∷ ((0 ∷ 0 ∷ 0 ∷ 0 ∷ []) ∷ (3 ∷ 6 ∷ 0 ∷ 4 ∷ 2 ∷ 4 ∷ 3 ∷ 4 ∷ 2 ∷ 99 ∷ []) ∷ [])
     -- 4. M times M
-    ∷ ((0 ∷ 0 ∷ 0 ∷ 0 ∷ []) ∷ (0 ∷ 0 ∷ 0 ∷ 0 ∷ 0 ∷ 0 ∷ 0 ∷ 2 ∷ 2 ∷ 1 ∷ 1 ∷ 0 ∷ 0 ∷ 0 ∷ 0 ∷ 0 ∷ 0 ∷ 0 ∷ 1 ∷ 2 ∷ 2 ∷ 1 ∷ 0 ∷ 2 ∷ 0 ∷ 1 ∷ 2 ∷ 5 ∷ 3 ∷ 2 ∷ 0 ∷ 3 ∷ 4 ∷ 1 ∷ 4 ∷ 3 ∷ 1 ∷ 0 ∷ 0 ∷ 0 ∷ 0 ∷ 0 ∷ 0 ∷ 0 ∷ 0 ∷ 0 ∷ 0 ∷ 0 ∷ 0 ∷ 6 ∷ 4 ∷ 99 ∷ []) ∷ [])
+    ∷ ((0 ∷ 0 ∷ 0 ∷ 0 ∷ []) ∷ (0 ∷ 0 ∷ 0 ∷ 0 ∷ 0 ∷ 0 ∷ 0 ∷ 2 ∷ 2 ∷ 1 ∷ 1 ∷ 0 ∷ 0 ∷ 0 ∷ 0 ∷ 0 ∷ 0 ∷ 0 ∷ 1 ∷ 2 ∷ 2 ∷ 1 ∷ 0 ∷ 2 ∷ 0 ∷ 1 ∷ 2 ∷ 5 ∷ 3 ∷ 2 ∷ 0 ∷ 3
+    ∷ 4 ∷ 1 ∷ 4 ∷ 3 ∷ 1 ∷ 0 ∷ 0 ∷ 0 ∷ 0 ∷ 0 ∷ 0 ∷ 0 ∷ 0 ∷ 0 ∷ 0 ∷ 0 ∷ 0 ∷ 6 ∷ 4 ∷ 99 ∷ []) ∷ [])
     --    its matrix
     ∷ ((0 ∷ 0 ∷ 0 ∷ 0 ∷ []) ∷ (0 ∷ 5 ∷ 3 ∷ 6 ∷ 0 ∷ 4 ∷ 1 ∷ 1 ∷ 4 ∷ 99 ∷ []) ∷ [])
     --    solving with it
@@ -137,18 +142,22 @@ outcomes =
     -- M times 3
     ∷ ((0 ∷ 0 ∷ 0 ∷ 0 ∷ []) ∷ (3 ∷ 0 ∷ 0 ∷ 2 ∷ 3 ∷ 0 ∷ 0 ∷ 2 ∷ 3 ∷ 2 ∷ 1 ∷ 6 ∷ 3 ∷ 1 ∷ 1 ∷ 2 ∷ 0 ∷ 0 ∷ 0 ∷ 0 ∷ 4 ∷ 99 ∷ []) ∷ [])
     -- M and D added
-    ∷ ((0 ∷ 0 ∷ 0 ∷ 0 ∷ []) ∷ (2 ∷ 0 ∷ 0 ∷ 0 ∷ 0 ∷ 0 ∷ 0 ∷ 2 ∷ 2 ∷ 1 ∷ 0 ∷ 0 ∷ 6 ∷ 1 ∷ 4 ∷ 2 ∷ 0 ∷ 0 ∷ 5 ∷ 1 ∷ 6 ∷ 2 ∷ 3 ∷ 1 ∷ 0 ∷ 3 ∷ 1 ∷ 0 ∷ 0 ∷ 0 ∷ 0 ∷ 0 ∷ 0 ∷ 0 ∷ 0 ∷ 4 ∷ 99 ∷ []) ∷ [])
+    ∷ ((0 ∷ 0 ∷ 0 ∷ 0 ∷ []) ∷ (2 ∷ 0 ∷ 0 ∷ 0 ∷ 0 ∷ 0 ∷ 0 ∷ 2 ∷ 2 ∷ 1 ∷ 0 ∷ 0 ∷ 6 ∷ 1 ∷ 4 ∷ 2 ∷ 0 ∷ 0 ∷ 5 ∷ 1 ∷ 6 ∷ 2 ∷ 3 ∷ 1 ∷ 0 ∷ 3 ∷ 1 ∷ 0 ∷ 0 ∷ 0 ∷ 0 ∷ 0
+    ∷ 0 ∷ 0 ∷ 0 ∷ 4 ∷ 99 ∷ []) ∷ [])
     -- M written
-    ∷ ((0 ∷ 0 ∷ 0 ∷ 0 ∷ []) ∷ (bytesOf (7 ∷ 3 ∷ 1 ∷ 1 ∷ 1 ∷ 2 ∷ 1 ∷ 0 ∷ 0 ∷ 2 ∷ 1 ∷ 0 ∷ 0 ∷ 3 ∷ 3 ∷ 1 ∷ 2 ∷ 1 ∷ 2 ∷ 3 ∷ 1 ∷ 0 ∷ 5 ∷ 3 ∷ 0 ∷ 0 ∷ 0 ∷ 0 ∷ 4 ∷ []) ++ (99 ∷ [])) ∷ [])
+    ∷ ((0 ∷ 0 ∷ 0 ∷ 0 ∷ [])
+    ∷ (bytesOf (7 ∷ 3 ∷ 1 ∷ 1 ∷ 1 ∷ 2 ∷ 1 ∷ 0 ∷ 0 ∷ 2 ∷ 1 ∷ 0 ∷ 0 ∷ 3 ∷ 3 ∷ 1 ∷ 2 ∷ 1 ∷ 2 ∷ 3 ∷ 1 ∷ 0 ∷ 5 ∷ 3 ∷ 0 ∷ 0 ∷ 0 ∷ 0 ∷ 4 ∷ []) ++ (99 ∷ [])) ∷ [])
     -- what the lister prints
-    ∷ (text "prime 7 size 3 lower 1 upper 1\n1 1 5\n2 3 1\n5 3 5\nregular\n" ∷ text "prime 101 size 2 lower 0 upper 1\n100 26\n0 0\nsingular 2\n" ∷ text "refused 5 6 2\n" ∷ [])
+    ∷ (text "prime 7 size 3 lower 1 upper 1\n1 1 5\n2 3 1\n5 3 5\nregular\n" ∷ text "prime 101 size 2 lower 0 upper 1\n100 26\n0 0\nsingular 2\n"
+    ∷ text "refused 5 6 2\n" ∷ [])
     ∷ []
 
 starred : examples ≡ outcomes
 unfolding lister digits fold join entryOf below above productsG Xs Ys inversesG pivots fs vs ys zs solvedG ahead behind sumsG residues res val of add mul neg inv inverseOf inverseBy res-dec isPrime divided some firstOf rowGens gens matrixOf rowWords tableWords badRow firstBad firstBadPlace entryW matrixW applyW applyTransposedW transposeW multipleW sumW inverseW pivotW firstZero solveW workW productW met broken firstBroken fileGens firstBadInFile readW fileWords writeW answer entryReply matrixReply applyReply transposeReply multipleReply solveReply inverseReply writeReply sumReply productReply readReply
 starred = refl
 
--- Replies: the limits, with examples 9 and 10; faulty calls, most of them with several faults at once, of which the earliest is named; and what is easily got wrong.
+-- Replies: the limits, with examples 9 and 10; faulty calls, most of them with several faults at once, of which the earliest is named; and what is
+-- easily got wrong.
 abbrev calls : List (List ℕ)
 calls =
     -- the limits
@@ -167,8 +176,10 @@ calls =
     ∷ numbersOf (entryReply 1 1 (table 0 0 (0 ∷ [])) 1 1)
     ∷ numbersOf (entryReply 2 1 (table 0 0 (1 ∷ [])) 1 1)
     ∷ numbersOf (entryReply 9 1 (table 0 0 (0 ∷ [])) 1 1)
-    ∷ numbersOf (readReply (bytesOf (7 ∷ 3 ∷ 1 ∷ 1 ∷ 4 ∷ 0 ∷ 5 ∷ 3 ∷ 9 ∷ 9 ∷ 9 ∷ 9 ∷ 4 ∷ 3 ∷ 1 ∷ 9 ∷ 9 ∷ 2 ∷ 1 ∷ 9 ∷ 9 ∷ 1 ∷ 3 ∷ 1 ∷ 2 ∷ 1 ∷ 2 ∷ 3 ∷ 1 ∷ [])) (lent 21))
-    ∷ numbersOf (readReply (bytesOf (7 ∷ 3 ∷ 1 ∷ 1 ∷ 2 ∷ 1 ∷ 5 ∷ 3 ∷ 9 ∷ 9 ∷ 9 ∷ 9 ∷ 4 ∷ 3 ∷ 1 ∷ 9 ∷ 9 ∷ 2 ∷ 1 ∷ 9 ∷ 9 ∷ 1 ∷ 3 ∷ 1 ∷ 2 ∷ 1 ∷ 2 ∷ 3 ∷ 1 ∷ [])) (lent 21))
+    ∷ numbersOf (readReply (bytesOf (7 ∷ 3 ∷ 1 ∷ 1 ∷ 4 ∷ 0 ∷ 5 ∷ 3 ∷ 9 ∷ 9 ∷ 9 ∷ 9 ∷ 4 ∷ 3 ∷ 1 ∷ 9 ∷ 9 ∷ 2 ∷ 1 ∷ 9 ∷ 9 ∷ 1 ∷ 3 ∷ 1 ∷ 2 ∷ 1 ∷ 2 ∷ 3 ∷ 1
+    ∷ [])) (lent 21))
+    ∷ numbersOf (readReply (bytesOf (7 ∷ 3 ∷ 1 ∷ 1 ∷ 2 ∷ 1 ∷ 5 ∷ 3 ∷ 9 ∷ 9 ∷ 9 ∷ 9 ∷ 4 ∷ 3 ∷ 1 ∷ 9 ∷ 9 ∷ 2 ∷ 1 ∷ 9 ∷ 9 ∷ 1 ∷ 3 ∷ 1 ∷ 2 ∷ 1 ∷ 2 ∷ 3 ∷ 1
+    ∷ [])) (lent 21))
     -- faults, most of them several at once
     ∷ numbersOf (readReply (bytesOf (9 ∷ [])) ([]))
     ∷ numbersOf (readReply (bytesOf (9 ∷ 0 ∷ 1 ∷ 1 ∷ 1 ∷ [])) ([]))
@@ -231,8 +242,10 @@ calls =
     ∷ numbersOf (solveReply 7 1 (table 0 0 (3 ∷ [])) (1 ∷ []) [] (0 ∷ []))
     ∷ numbersOf (solveReply 7 1 (table 0 1 (3 ∷ 9 ∷ 9 ∷ 9 ∷ [])) (1 ∷ []) [] (0 ∷ []))
     ∷ numbersOf (readReply (bytesOf fileM ++ (0 ∷ [])) [])
-    ∷ numbersOf (readReply (bytesOf (7 ∷ 3 ∷ 1 ∷ 1 ∷ 2 ∷ 0 ∷ 5 ∷ 3 ∷ 9 ∷ 9 ∷ 9 ∷ 9 ∷ 4 ∷ 2 ∷ 1 ∷ 9 ∷ 9 ∷ 2 ∷ 1 ∷ 9 ∷ 9 ∷ 1 ∷ 3 ∷ 1 ∷ 2 ∷ 1 ∷ 2 ∷ 3 ∷ 1 ∷ [])) (lent 21))
-    ∷ numbersOf (readReply (bytesOf (7 ∷ 3 ∷ 1 ∷ 1 ∷ 2 ∷ 0 ∷ 7 ∷ 3 ∷ 9 ∷ 9 ∷ 9 ∷ 9 ∷ 4 ∷ 3 ∷ 1 ∷ 9 ∷ 9 ∷ 2 ∷ 1 ∷ 9 ∷ 9 ∷ 1 ∷ 7 ∷ 1 ∷ 2 ∷ 1 ∷ 2 ∷ 3 ∷ 1 ∷ [])) (lent 21))
+    ∷ numbersOf (readReply (bytesOf (7 ∷ 3 ∷ 1 ∷ 1 ∷ 2 ∷ 0 ∷ 5 ∷ 3 ∷ 9 ∷ 9 ∷ 9 ∷ 9 ∷ 4 ∷ 2 ∷ 1 ∷ 9 ∷ 9 ∷ 2 ∷ 1 ∷ 9 ∷ 9 ∷ 1 ∷ 3 ∷ 1 ∷ 2 ∷ 1 ∷ 2 ∷ 3 ∷ 1
+    ∷ [])) (lent 21))
+    ∷ numbersOf (readReply (bytesOf (7 ∷ 3 ∷ 1 ∷ 1 ∷ 2 ∷ 0 ∷ 7 ∷ 3 ∷ 9 ∷ 9 ∷ 9 ∷ 9 ∷ 4 ∷ 3 ∷ 1 ∷ 9 ∷ 9 ∷ 2 ∷ 1 ∷ 9 ∷ 9 ∷ 1 ∷ 7 ∷ 1 ∷ 2 ∷ 1 ∷ 2 ∷ 3 ∷ 1
+    ∷ [])) (lent 21))
     ∷ numbersOf (readReply (bytesOf (2 ∷ 3 ∷ 0 ∷ 0 ∷ 3 ∷ 2 ∷ 1 ∷ 0 ∷ 1 ∷ 1 ∷ 1 ∷ [])) (lent 3))
     ∷ []
 

@@ -30,7 +30,8 @@ use Rattle.table.specs.CallLaws.{AllClear, number-is, all-clear, accepts-where,
 use Rattle.table.specs.AcceptsProof.{causes as badCauses}
 use Rattle.table.specs.PackedProof.{Fits, fit-nil, fit-cons, parts, plain, fits-sizes, short-fits, words-fit, column-fits}
 use Rattle.table_kernel.specs.KernelCall.{kernelW, shows, kernelReply, kernelAfter, showsChecks, showsReply}
-use Rattle.table_kernel.specs.KernelPromises.{SentToZeros, Shows, GoodLoan, GoodQuestion, ShowsCauses, CheckPromises, KernelPasses, KernelUnused, Promises}
+use Rattle.table_kernel.specs.KernelPromises.{SentToZeros, Shows, GoodLoan, GoodQuestion, ShowsCauses, CheckPromises, KernelPasses, KernelUnused}
+use Rattle.table_kernel.specs.KernelPromises.{Promises}
 use Rattle.table_kernel.specs.KernelProof.{swept, table-good, kernel}
 
 value-of : {w r : Reply} → w ≡ r → w .value ≡ r .value

@@ -25,7 +25,8 @@ use Rattle.table.specs.WordLaws.{words-below}
 use Rattle.table.specs.Results.{column, columnWords, firstZero}
 use Rattle.table.specs.Replies.{Reply, Check, Accepted, NoFault, causeAt, check, accept, refuse, answer, badPrime, badSize, badOrder, short}
 use Rattle.table.specs.Calls.{tableLength, solveEarlier, solveReply, inverseEarlier, inverseReply, checkPivots}
-use Rattle.table.specs.CallLaws.{AllClear, lacks, number-is, none-gave, all-clear, value-is, kept, surplus, after-is, after-length, answer-append, open-checks, none-row}
+use Rattle.table.specs.CallLaws.{AllClear, lacks, number-is, none-gave, all-clear, value-is, kept, surplus, after-is, after-length, answer-append, open-checks}
+use Rattle.table.specs.CallLaws.{none-row}
 use Rattle.table.specs.SingularRow.{least-singular, singular-first, regular-none, none-regular}
 use Rattle.table.specs.AcceptsProof.{causes as badCauses}
 use Rattle.table.specs.PackedProof.{Fits, fit-nil, fit-cons, parts, plain, fits-sizes, short-fits, words-fit}
