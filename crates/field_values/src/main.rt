@@ -3,7 +3,8 @@ use libc::STDOUT_FILENO;
 ghost use Prim.Native.Nat.{_<_};
 ghost use Rattle.field.specs.Ready.{Ready};
 
-// Small numbers, Carmichael numbers, a strong pseudoprime, squares of large primes of each residue prime to 30, products of two primes, and numbers up to 2^31 - 1.
+// Small numbers, Carmichael numbers, a strong pseudoprime, squares of large primes of each residue prime to 30, products of two primes,
+// and numbers up to 2^31 - 1.
 const NUMBERS: [u32; 47] = [
     0,
     1,

@@ -5,7 +5,31 @@ ghost use Rattle.table.specs.Replies.{packed};
 ghost use Rattle.table_dense.specs.DenseCall.{denseReply, denseAfter, squareAfter};
 ghost use Rattle.table_kernel.specs.KernelCall.{kernelReply, kernelAfter, showsReply};
 ghost use Rattle.call_fractions.specs.FractionCall.{fractionsReply, numeratorsAfter, denominatorsAfter};
-ghost use Rattle.table.specs.Calls.{entryReply, matrixReply, matrixAfter, applyReply, applyAfter, applyTransposedAfter, transposeReply, transposeAfter, multipleReply, multipleAfter, sumReply, sumAfter, productReply, productAfter, solveReply, solveAfter, workAfter, inverseReply, inverseAfter, readReply, readAfter, writeReply, writeAfter};
+ghost use Rattle.table.specs.Calls.{
+  entryReply,
+  matrixReply,
+  matrixAfter,
+  applyReply,
+  applyAfter,
+  applyTransposedAfter,
+  transposeReply,
+  transposeAfter,
+  multipleReply,
+  multipleAfter,
+  sumReply,
+  sumAfter,
+  productReply,
+  productAfter,
+  solveReply,
+  solveAfter,
+  workAfter,
+  inverseReply,
+  inverseAfter,
+  readReply,
+  readAfter,
+  writeReply,
+  writeAfter,
+};
 
 #[no_mangle]
 pub extern "C" fn residues_entry(
@@ -251,8 +275,10 @@ pub extern "C" fn residues_fractions(
     denominators: &mut [u32],
 ) -> u64
     ensures { λ v. ⌜ v ≡ packed (fractionsReply p q n (now (first .entry)) (now (second .entry)) (now (numerators .entry)) (now (denominators .entry))) ⌝ }
-    ensures { λ v. ⌜ now (numerators .exit) ≡ numeratorsAfter p q n (now (first .entry)) (now (second .entry)) (now (numerators .entry)) (now (denominators .entry)) ⌝ }
-    ensures { λ v. ⌜ now (denominators .exit) ≡ denominatorsAfter p q n (now (first .entry)) (now (second .entry)) (now (numerators .entry)) (now (denominators .entry)) ⌝ }
+    ensures { λ v. ⌜ now (numerators .exit)
+        ≡ numeratorsAfter p q n (now (first .entry)) (now (second .entry)) (now (numerators .entry)) (now (denominators .entry)) ⌝ }
+    ensures { λ v. ⌜ now (denominators .exit)
+        ≡ denominatorsAfter p q n (now (first .entry)) (now (second .entry)) (now (numerators .entry)) (now (denominators .entry)) ⌝ }
 {
     check_numbers::pack(call_fractions::fractions(p, q, n, first, second, numerators, denominators))
 }

@@ -31,8 +31,12 @@ join-past n u v i h = let z : i ≡ n + (i - n) = omega arith in ap (join n u v)
 
 -- line i of a block of four corners: an upper one, and a lower one
 module _ (at n m i : ℕ) (u w v : ℕ → ℕ → ℕ) (d : List ℕ) {a b : List ℕ} (within : at ≤ length d) where
-  pub upper-line : (f : ℕ → ℕ) → i < n → a ≡ putAt at n f d → b ≡ putAt (at + n) m (w i) a → ((j : ℕ) → f j ≡ u i j) → b ≡ putAt at (n + m) (cornerWords n u w v i) d
-  upper-line f h e q x = put-join at n m f (w i) _ _ d within e q (λ j. x j ∙ sym (join-left n (λ k. u k j) (λ k. 0) i h)) (λ j. sym (join-left n (λ k. w k j) (λ k. v k j) i h))
+  pub upper-line : (f : ℕ → ℕ) → i < n → a ≡ putAt at n f d → b ≡ putAt (at + n) m (w i) a → ((j : ℕ) → f j ≡ u i j)
+      → b ≡ putAt at (n + m) (cornerWords n u w v i) d
+  upper-line f h e q x = put-join at n m f (w i) _ _ d within e q (λ j. x j ∙ sym (join-left n (λ k. u k j) (λ k. 0) i h))
+      (λ j. sym (join-left n (λ k. w k j) (λ k. v k j) i h))
 
-  pub lower-line : (g : ℕ → ℕ) → n ≤ i → a ≡ putAt at n (λ e. 0) d → b ≡ putAt (at + n) m g a → ((j : ℕ) → g j ≡ v (i - n) j) → b ≡ putAt at (n + m) (cornerWords n u w v i) d
-  lower-line g h e q y = put-join at n m (λ j. 0) g _ _ d within e q (λ j. sym (join-past n (λ k. u k j) (λ k. 0) i h)) (λ j. y j ∙ sym (join-past n (λ k. w k j) (λ k. v k j) i h))
+  pub lower-line : (g : ℕ → ℕ) → n ≤ i → a ≡ putAt at n (λ e. 0) d → b ≡ putAt (at + n) m g a → ((j : ℕ) → g j ≡ v (i - n) j)
+      → b ≡ putAt at (n + m) (cornerWords n u w v i) d
+  lower-line g h e q y = put-join at n m (λ j. 0) g _ _ d within e q (λ j. sym (join-past n (λ k. u k j) (λ k. 0) i h))
+      (λ j. y j ∙ sym (join-past n (λ k. w k j) (λ k. v k j) i h))

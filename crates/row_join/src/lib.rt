@@ -2,16 +2,16 @@
 use field::Modulus;
 use row_halves::Half;
 ghost use mathlib.Core.Path.{_≡_};
-ghost use mathlib.Core.List.{List, _++_};
+ghost use mathlib.Core.List.{_++_};
 ghost use Prim.Native.Nat.{ℕ, _+_, _*_, _/_, _%_, _<_, _≤_};
-ghost use lib.ListN.{length, drop};
+ghost use lib.ListN.{length};
 ghost use Rattle.algebra.specs.Sums.{join};
 ghost use Rattle.algebra.specs.Generators.{pick};
 ghost use Rattle.field.specs.Ready.{Ready};
 ghost use Rattle.lists.specs.Lists.{putAt};
 ghost use Rattle.lists.specs.Index.{farthest};
-ghost use Rattle.row_words.specs.Rows.{wordsAt};
-ghost use Rattle.row_join.specs.Pairs.{joinedBlock, joinedHalf};
+ghost use Rattle.row_words.specs.Rows.{wordsAt, Appends};
+ghost use Rattle.row_join.specs.Pairs.{joinedBlock, joinedHalf, joinedSize};
 ghost use Rattle.row_halves.specs.HalfRow.{Lies};
 
 // n words of x from `a` on, then k words of y from `e` on, where they are used, else zeros.
@@ -26,8 +26,10 @@ fn put_two(
     e: usize,
     k: usize,
 )
-    requires { ⌜ (n ≤ 8) × (k ≤ 8) × (a ≤ farthest) × (e ≤ farthest) × (at + (n + k) ≤ length (now out)) × (a + n ≤ length (now x)) × (e + k ≤ length (now y)) ⌝ }
-    ensures { λ _. ⌜ now (out .exit) ≡ putAt at (n + k) (λ j. pick used (join n (wordsAt (now (x .entry)) a) (wordsAt (now (y .entry)) e) j) 0) (now (out .entry)) ⌝ }
+    requires { ⌜ (n ≤ 8) × (k ≤ 8) × (a ≤ farthest) × (e ≤ farthest) × (at + (n + k) ≤ length (now out))
+        × (a + n ≤ length (now x)) × (e + k ≤ length (now y)) ⌝ }
+    ensures { λ _. ⌜ now (out .exit)
+        ≡ putAt at (n + k) (λ j. pick used (join n (wordsAt (now (x .entry)) a) (wordsAt (now (y .entry)) e) j) 0) (now (out .entry)) ⌝ }
 {
     if used {
         row_words::copy_words(out, at, n, x, a, 1);
@@ -49,8 +51,10 @@ fn put_line(
     row2: &[u32],
     h2: Half,
 )
-    requires { ⌜ Ready m × (i < h1 .order + h2 .order) × (h1 .order + h2 .order ≤ 8) × (at + (h1 .order + h2 .order) ≤ length (now out)) × Lies (now row1) h1 × Lies (now row2) h2 ⌝ }
-    ensures { λ _. ⌜ now (out .exit) ≡ putAt at (h1 .order + h2 .order) (joinedBlock (m .p) outer (now (row1 .entry)) h1 (now (row2 .entry)) h2 i) (now (out .entry)) ⌝ }
+    requires { ⌜ Ready m × (i < h1 .order + h2 .order) × (h1 .order + h2 .order ≤ 8)
+        × (at + (h1 .order + h2 .order) ≤ length (now out)) × Lies (now row1) h1 × Lies (now row2) h2 ⌝ }
+    ensures { λ _. ⌜ now (out .exit)
+        ≡ putAt at (h1 .order + h2 .order) (joinedBlock (m .p) outer (now (row1 .entry)) h1 (now (row2 .entry)) h2 i) (now (out .entry)) ⌝ }
 {
     let n = h1.order;
     let k = h2.order;
@@ -75,9 +79,12 @@ fn put_corners(
     row2: &[u32],
     h2: Half,
 )
-    requires { ⌜ Ready m × (h1 .order + h2 .order ≤ 8) × (at + (h1 .order + h2 .order) * (h1 .order + h2 .order) ≤ length (now out)) × Lies (now row1) h1 × Lies (now row2) h2 ⌝ }
+    requires { ⌜ Ready m × (h1 .order + h2 .order ≤ 8)
+        × (at + (h1 .order + h2 .order) * (h1 .order + h2 .order) ≤ length (now out))
+        × Lies (now row1) h1 × Lies (now row2) h2 ⌝ }
     ensures { λ _. ⌜ now (out .exit) ≡ putAt at ((h1 .order + h2 .order) * (h1 .order + h2 .order))
-        (λ e. pick used (joinedBlock (m .p) outer (now (row1 .entry)) h1 (now (row2 .entry)) h2 (e / (h1 .order + h2 .order)) (e % (h1 .order + h2 .order))) 0) (now (out .entry)) ⌝ }
+        (λ e. pick used (joinedBlock (m .p) outer (now (row1 .entry)) h1 (now (row2 .entry)) h2 (e / (h1 .order + h2 .order))
+        (e % (h1 .order + h2 .order))) 0) (now (out .entry)) ⌝ }
 {
     let o = h1.order + h2.order;
     if !used {
@@ -112,11 +119,11 @@ pub fn put_half(
     f: usize,
 )
     requires { ⌜ Ready m × (h1 .order + h2 .order ≤ 8) × (at ≤ farthest) × (e ≤ farthest) × (f ≤ farthest)
-        × (at + (2 * (h1 .order + h2 .order) + (h1 .order + h2 .order) * (h1 .order + h2 .order)) ≤ length (now out))
+        × (at + joinedSize h1 h2 ≤ length (now out))
         × Lies (now row1) h1 × Lies (now row2) h2 × (e + h2 .order ≤ length (now x)) × (f + h1 .order ≤ length (now y)) ⌝ }
-    ensures { λ _. ⌜ ((pre d : List ℕ) → length pre ≡ at → now (out .entry) ≡ pre ++ drop at d
-        → now (out .exit) ≡ (pre ++ joinedHalf (m .p) outer first last (now (row1 .entry)) h1 (now (row2 .entry)) h2 (now (x .entry)) e (now (y .entry)) f)
-        ++ drop (at + (2 * (h1 .order + h2 .order) + (h1 .order + h2 .order) * (h1 .order + h2 .order))) d) ⌝ }
+    ensures { λ _. ⌜ Appends at (joinedSize h1 h2)
+        (joinedHalf (m .p) outer first last (now (row1 .entry)) h1 (now (row2 .entry)) h2 (now (x .entry)) e (now (y .entry)) f)
+        (now (out .entry)) (now (out .exit)) ⌝ }
 {
     let n = h1.order;
     let k = h2.order;

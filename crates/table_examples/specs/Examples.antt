@@ -153,7 +153,11 @@ outcomes =
     ∷ []
 
 starred : examples ≡ outcomes
-unfolding lister digits fold join entryOf below above productsG Xs Ys inversesG pivots fs vs ys zs solvedG ahead behind sumsG residues res val of add mul neg inv inverseOf inverseBy res-dec isPrime divided some firstOf rowGens gens matrixOf rowWords tableWords badRow firstBad firstBadPlace entryW matrixW applyW applyTransposedW transposeW multipleW sumW inverseW pivotW firstZero solveW workW productW met broken firstBroken fileGens firstBadInFile readW fileWords writeW answer entryReply matrixReply applyReply transposeReply multipleReply solveReply inverseReply writeReply sumReply productReply readReply
+unfolding lister digits fold join entryOf below above productsG Xs Ys inversesG pivots fs vs ys zs solvedG ahead behind sumsG residues res val of add
+    mul neg inv inverseOf inverseBy res-dec isPrime divided some firstOf rowGens gens matrixOf rowWords tableWords badRow firstBad firstBadPlace
+    entryW matrixW applyW applyTransposedW transposeW multipleW sumW inverseW pivotW firstZero solveW workW productW met broken firstBroken
+    fileGens firstBadInFile readW fileWords writeW answer entryReply matrixReply applyReply transposeReply multipleReply solveReply inverseReply
+    writeReply sumReply productReply readReply
 starred = refl
 
 -- Replies: the limits, with examples 9 and 10; faulty calls, most of them with several faults at once, of which the earliest is named; and what is
@@ -337,7 +341,11 @@ replies =
     ∷ []
 
 replied : calls ≡ replies
-unfolding fold join entryOf below above productsG Xs Ys inversesG pivots fs vs ys zs solvedG ahead behind sumsG residues res val of add mul neg inv inverseOf inverseBy res-dec isPrime divided some firstOf rowGens gens matrixOf rowWords tableWords badRow firstBad firstBadPlace entryW matrixW applyW applyTransposedW transposeW multipleW sumW inverseW pivotW firstZero solveW workW productW met broken firstBroken fileGens firstBadInFile readW fileWords writeW answer entryReply matrixReply applyReply transposeReply multipleReply solveReply inverseReply writeReply sumReply productReply readReply
+unfolding fold join entryOf below above productsG Xs Ys inversesG pivots fs vs ys zs solvedG ahead behind sumsG residues res val of add mul neg inv
+    inverseOf inverseBy res-dec isPrime divided some firstOf rowGens gens matrixOf rowWords tableWords badRow firstBad firstBadPlace entryW
+    matrixW applyW applyTransposedW transposeW multipleW sumW inverseW pivotW firstZero solveW workW productW met broken firstBroken fileGens
+    firstBadInFile readW fileWords writeW answer entryReply matrixReply applyReply transposeReply multipleReply solveReply inverseReply
+    writeReply sumReply productReply readReply
 replied = refl
 
 -- The largest prime, which is the house prime. That it is prime is a theorem, not computed here.
