@@ -17,9 +17,8 @@ use Rattle.table.specs.CallLaws.{written-length}
 use Rattle.algebra_elimination.specs.Elimination.{solution}
 use Rattle.row_dense.specs.DenseRows.{Square, Beside}
 use Rattle.row_dense.specs.RowLaws.{under}
-use Rattle.row_dense.specs.Tails.{lent-again}
 use Rattle.sweep_dense.specs.Progress.{Holds, HoldsColumn}
-use Rattle.lists.specs.Parts.{part-word}
+use Rattle.lists.specs.Parts.{part-word, lent-again}
 use Rattle.table_dense.specs.DenseCall.{denseW}
 
 -- the right-hand side b, of n words below P, and a square v with room for the table's matrix

@@ -28,6 +28,10 @@ firstOf (suc n) f at = elim (f at) [ true ↦ suc at | false ↦ firstOf n f (su
 abbrev pub over {ℓ} : {X : Type ℓ} → List X → List X → List X
 over ys d = ys ++ drop (length ys) d
 
+-- the same where ys are n words
+abbrev pub begun {ℓ} : {X : Type ℓ} → ℕ → List X → List X → List X
+begun n ys d = ys ++ drop n d
+
 -- a buffer that held d, with f 0, .., f (n - 1) written from `at` on
 unfoldable pub putAt : (at n : ℕ) → (ℕ → ℕ) → List ℕ → List ℕ
 putAt at n f d = take at d ++ (tabulate n f ++ drop (at + n) d)
