@@ -9,7 +9,7 @@ use denote.Ref.{now}
 use Rattle.field.specs.Residue.{prime-pos}
 use Rattle.table.specs.Words.{Table, table, firstBadPlace}
 use Rattle.table.specs.Results.{applyW}
-use Rattle.table.specs.Replies.{Reply, reply, Accepted}
+use Rattle.table.specs.Replies.{Reply, Accepted}
 use Rattle.table.specs.Calls.{applyReply}
 use Rattle.check_numbers.specs.Passed.{Good, apply-passed}
 use Rattle.table.specs.CallLaws.{refused-leaves}
@@ -65,6 +65,5 @@ apply-spec =
     let checks = ok .before .before in
     let a = start checks .args in (
       answered checks,
-      apply-leaves (a .p) (a .n) (a .r) (a .s) (now (a .table)) (now (a .column)) (now (a .result)) _ _
-          (m .new .ensures .0) (words .apply-words .ensures) (accepted ok),
+      apply-leaves (a .p) (a .n) (A (start checks)) (now (a .column)) (now (a .result)) _ _ (m .new .ensures .0) (accepted ok) (words .apply-words .ensures),
     )))
