@@ -1,27 +1,24 @@
--- Reading one entry: what the two walks ask, what the three readings yield, and the reply.
+-- Reading one entry: what the three readings yield, and the reply.
 use mathlib.Core.Logic.{_≢_}
 use mathlib.Core.Path.{_≡_, refl, sym, ap, _∙_}
 use mathlib.Core.List.{List}
-use Prim.Native.Nat.{ℕ, suc, _+_, _-_, _*_, _<_, _≤_}
+use Prim.Native.Nat.{ℕ, _+_, _-_, _*_, _<_, _≤_}
 use native.Mathlib.Nat.{mul-le-mul, mul-le-mul-right}
 use native.Mathlib.Omega.{arith}
 use lib.ListN.{length, getD}
-use Rattle.lists.specs.Index.{farthest}
-use Rattle.field.specs.Ready.{Ready}
-use Rattle.field.specs.declared.Modulus.{Modulus}
-use Rattle.field.specs.Residue.{residues, val, val-small, prime-pos}
-use Rattle.table.specs.Words.{Table, table, gap, width, matrixOf}
+use Rattle.field.specs.Residue.{val, val-small, prime-pos}
+use Rattle.table.specs.Words.{Table, table, width, matrixOf}
 use Rattle.table.specs.Replies.{Reply, accept, answer}
 use Rattle.table.specs.Results.{entryW}
 use Rattle.table.specs.Calls.{entryChecks, entryReply}
 use Rattle.table.specs.CallLaws.{passed, open-checks, refused-by, given}
 use Rattle.table.specs.Limits.{mostSize, mostWidth}
-use Rattle.row_halves.specs.declared.Half.{Half}
-use Rattle.sweep_apply.specs.Half.{halfGens, HalfReads, entryBelow, entryAbove}
-use Rattle.row_halves.specs.Halves.{lowerHalf, upperHalf}
 use Rattle.check_numbers.specs.Passed.{Good}
-use Rattle.sweep_apply.specs.Reads.{lower-down, upper-up, lower-sizes, upper-sizes}
+use Rattle.row_halves.specs.declared.Half.{Half}
+use Rattle.row_halves.specs.Halves.{lowerHalf, upperHalf}
+use Rattle.sweep_apply.specs.Reads.{lower-down}
 use Rattle.sweep_apply.specs.Link.{entry-below-is, entry-above-is, entry-diagonal-is}
+use Rattle.sweep_entry.specs.Walk.{belowWord, aboveWord}
 
 -- y answers the checks: a refusal is the call's reply; where they pass, the reply has the entry
 module _ (P N : ℕ) (A : Table) (i j : ℕ) (y : Reply) (e : y ≡ answer (entryChecks P N A i j) (accept 0)) where
@@ -36,31 +33,15 @@ module _ (P N : ℕ) (A : Table) (i j : ℕ) (y : Reply) (e : y ≡ answer (entr
   entry-accepted ok = open-checks (entryChecks P N A i j) (accept (entryW P N A (i - 1) (j - 1)))
       (passed (entryChecks P N A i j) (accept 0) refl (ap (λ (x : Reply). x .number) (sym e) ∙ ok))
 
-module _ (P N r s : ℕ) (t : List ℕ) (w : ℕ) (ew : (w ≡ width r s) × (w ≤ mostWidth)) (g : Good P N (table r s t)) (i j : ℕ) where
-  -- What the walks ask, of the half that code holds, and yield.
-  module _ (m : Modulus) (fit : Ready m) (h : Half) where
-    pub below-asks : h ≡ lowerHalf r → j < i → i < N
-        → Ready m × (1 < P) × (N ≤ mostSize) × (w ≤ mostWidth) × (N * w ≤ length t) × (h .order ≤ 8) × (h .block ≤ farthest) × (h .down ≤ 8)
-        × HalfReads P N w t (λ k. gap N (h .order) (suc k)) (gap N (h .order)) (h .row) (h .block) (h .down) (h .across) (h .column) × (j < i) × (i < N)
-    below-asks eh l m = let z = lower-sizes r (g .lower) in
-        (fit, omega (arith, g .prime .two-le), g .most, ew .1, rw (ew .0) (g .long), rw eh (z .0), rw eh (z .1), rw eh (z .2), rw (ew .0, eh) (lower-down P N r s t g), l, m)
+-- What the walks yield, over the half that code holds, is the entry.
+module _ (P N r s : ℕ) (t : List ℕ) (w : ℕ) (ew : w ≡ width r s) (i j : ℕ) (h : Half) (v : ℕ) where
+  pub below-yields : h ≡ lowerHalf r → j < i → i < N → v ≡ belowWord P N w t h i j → v ≡ entryW P N (table r s t) i j
+  unfolding entryW
+  below-yields eh l m e = (rw (ew, eh) at e) ∙ ap (val P) (entry-below-is P r s t N i j l m)
 
-    pub above-asks : h ≡ upperHalf r s → i < j → j < N
-        → Ready m × (1 < P) × (N ≤ mostSize) × (w ≤ mostWidth) × (N * w ≤ length t) × (h .order ≤ 8) × (h .block ≤ farthest) × (h .down ≤ 8)
-        × HalfReads P N w t (gap N (h .order)) (λ k. gap N (h .order) (suc k)) (h .row) (h .block) (h .down) (h .across) (h .column) × (i < j) × (j < N)
-    above-asks eh l m = let z = upper-sizes r s (g .lower) (g .upper) in
-        (fit, omega (arith, g .prime .two-le), g .most, ew .1, rw (ew .0) (g .long), rw eh (z .0), rw eh (z .1), rw eh (z .2), rw (ew .0, eh) (upper-up P N r s t g), l, m)
-
-  module _ (h : Half) (v : ℕ) where
-    pub below-yields : h ≡ lowerHalf r → j < i → i < N
-        → v ≡ val P (entryBelow (residues P) (gap N (h .order)) (halfGens P w t (h .row) (h .block) (h .down) (h .across) (h .column)) i j) → v ≡ entryW P N (table r s t) i j
-    unfolding entryW
-    below-yields eh l m e = (rw (ew .0, eh) at e) ∙ ap (val P) (entry-below-is P r s t N i j l m)
-
-    pub above-yields : h ≡ upperHalf r s → i < j → j < N
-        → v ≡ val P (entryAbove (residues P) (gap N (h .order)) (halfGens P w t (h .row) (h .block) (h .down) (h .across) (h .column)) i j) → v ≡ entryW P N (table r s t) i j
-    unfolding entryW
-    above-yields eh l m e = (rw (ew .0, eh) at e) ∙ ap (val P) (entry-above-is P r s t N i j l m)
+  pub above-yields : h ≡ upperHalf r s → i < j → j < N → v ≡ aboveWord P N w t h i j → v ≡ entryW P N (table r s t) i j
+  unfolding entryW
+  above-yields eh l m e = (rw (ew, eh) at e) ∙ ap (val P) (entry-above-is P r s t N i j l m)
 
 -- The first word of row i lies in the table, and is the entry on the diagonal.
 module _ (P N r s : ℕ) (t : List ℕ) (g : Good P N (table r s t)) (w : ℕ) (ew : (w ≡ width r s) × (w ≤ mostWidth)) (i : ℕ) (h : i < N) where
