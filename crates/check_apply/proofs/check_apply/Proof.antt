@@ -1,100 +1,47 @@
--- `check_apply::check_apply` meets its contract: the checks one after the other.
+-- `check_apply::check_apply` meets its contract: each step answers one check more.
 use borrow.Author.Needs.{needs}
-use borrow.Author.Tests.{lt-ltb, le-ltb}
-use mathlib.Core.Path.{refl, ap, _∙_}
-use Prim.Native.Nat.{ℕ}
-use lib.ListN.{length}
-use native.Mathlib.Nat.{mul-le-mul}
+use borrow.Author.Tests.{ltb-false}
+use mathlib.Core.List.{List, [], _∷_}
+use mathlib.Core.Path.{refl}
 use native.Mathlib.Omega.{arith}
-use Rattle.table.specs.Words.{table, width, firstBad, firstBadPlace}
-use Rattle.table.specs.Replies.{reply, answer}
-use Rattle.check_numbers.specs.CheckLaws.{reply-is}
-use Rattle.check_table.specs.Ladder.{numbers-stop, numbers-clear, numbers-accept, within, table-short, table-long, room-short, room-long, row-found, row-none}
+use Prim.Native.Nat.{_*_}
+use lib.Dec.{ltb}
+use lib.ListN.{length}
+use Rattle.table.specs.Limits.{standard, mostSize}
+use Rattle.table.specs.Words.{Table, table, width}
+use Rattle.table.specs.Replies.{Check, check, refuse}
+use Rattle.table.specs.Calls.{sizeChecks}
+use Rattle.check_steps.specs.Checked.{Checked}
+use Rattle.check_steps.specs.StepLaws.{first-clear, sized}
 use Rattle.check_apply.proofs.check_apply.Statement.{statement}
 use Rattle.check_apply.proofs.check_apply.Tie as tie
 
-returns-2 : tie.Need-returns-2
-unfolding answer
-returns-2 c = λ d l.
-    let a = c .before .before .before .before .before .before .before .before .args in
-    let z = numbers-clear (a .p) (a .n) (table (a .r) (a .s) (a .t .now)) _ (c .before .before .before .before .before .numbers .ensures (a .t .now)) (c .before .before .before .if1 .left) in
-    let e0 = table-short (a .t .now) (a .n) _ (width (a .r) (a .s)) (c .before .before .row-width .ensures .0) (c .before .if2 .taken) in
-    rw (z .prime, z .size, z .orders, e0) (reply-is (c .refuse .ensures))
+module _ (s : tie.Start) where
+  abbrev A : Table
+  A = table (s .args .r) (s .args .s) (s .args .t .now)
 
-returns-3 : tie.Need-returns-3
-unfolding answer
-returns-3 c = λ d l.
-    let a = c .before .before .before .before .before .before .before .before .before .args in
-    let z = numbers-clear (a .p) (a .n) (table (a .r) (a .s) (a .t .now)) _ (c .before .before .before .before .before .before .numbers .ensures (a .t .now)) (c .before .before .before .before .if1 .left) in
-    let e0 = table-long (a .t .now) (a .n) _ (width (a .r) (a .s)) (c .before .before .before .row-width .ensures .0) (c .before .before .if2 .left) in
-    let e1 = lt-ltb (length (a .x .now)) (a .n) (c .before .if3 .taken) in
-    rw (z .prime, z .size, z .orders, e0, e1) (reply-is (c .refuse2 .ensures))
+  -- the checks of the numbers and of the lengths
+  abbrev early : List Check
+  early = let a = s .args in sizeChecks (a .p) (a .n) standard A (
+      check (ltb (length (a .t .now)) (a .n * width (a .r) (a .s))) (refuse 4 1 0)
+      ∷ check (ltb (length (a .x .now)) (a .n)) (refuse 4 3 0)
+      ∷ check (ltb (a .room) (a .n)) (refuse 4 5 0) ∷ [])
 
-returns-4 : tie.Need-returns-4
-unfolding answer
-returns-4 c = λ d l.
-    let a = c .before .before .before .before .before .before .before .before .before .before .args in
-    let z = numbers-clear (a .p) (a .n) (table (a .r) (a .s) (a .t .now)) _ (c .before .before .before .before .before .before .before .numbers .ensures (a .t .now)) (c .before .before .before .before .before .if1 .left) in
-    let e0 = table-long (a .t .now) (a .n) _ (width (a .r) (a .s)) (c .before .before .before .before .row-width .ensures .0) (c .before .before .before .if2 .left) in
-    let e1 = le-ltb (length (a .x .now)) (a .n) (c .before .before .if3 .left) in
-    let e2 = room-short d (a .room) _ (a .n) l refl (c .before .if4 .taken) in
-    rw (z .prime, z .size, z .orders, e0, e1, e2) (reply-is (c .refuse3 .ensures))
-
-returns-5 : tie.Need-returns-5
-unfolding answer
-returns-5 c = λ d l.
-    let a = c .before .before .before .before .before .before .before .before .before .before .before .before .args in
-    let z = numbers-clear (a .p) (a .n) (table (a .r) (a .s) (a .t .now)) _ (c .before .before .before .before .before .before .before .before .before .numbers .ensures (a .t .now)) (c .before .before .before .before .before .before .before .if1 .left) in
-    let e0 = table-long (a .t .now) (a .n) _ (width (a .r) (a .s)) (c .before .before .before .before .before .before .row-width .ensures .0) (c .before .before .before .before .before .if2 .left) in
-    let e1 = le-ltb (length (a .x .now)) (a .n) (c .before .before .before .before .if3 .left) in
-    let e2 = room-long d (a .room) _ (a .n) l refl (c .before .before .before .if4 .left) in
-    let e3 = row-found _ (firstBad (a .p) (a .n) (table (a .r) (a .s) (a .t .now))) (c .before .before .first-bad-row .ensures .0) (c .before .if5 .taken) in
-    rw (z .prime, z .size, z .orders, e0, e1, e2, e3) (reply-is (c .refuse4 .ensures) ∙ ap (λ (m : ℕ). reply 5 1 m 0) (c .before .before .first-bad-row .ensures .0))
-
-returns-6 : tie.Need-returns-6
-unfolding answer
-returns-6 c = λ d l.
-    let a = c .before .before .before .before .before .before .before .before .before .before .before .before .before .before .args in
-    let z = numbers-clear (a .p) (a .n) (table (a .r) (a .s) (a .t .now)) _ (c .before .before .before .before .before .before .before .before .before .before .before .numbers .ensures (a .t .now)) (c .before .before .before .before .before .before .before .before .before .if1 .left) in
-    let e0 = table-long (a .t .now) (a .n) _ (width (a .r) (a .s)) (c .before .before .before .before .before .before .before .before .row-width .ensures .0) (c .before .before .before .before .before .before .before .if2 .left) in
-    let e1 = le-ltb (length (a .x .now)) (a .n) (c .before .before .before .before .before .before .if3 .left) in
-    let e2 = room-long d (a .room) _ (a .n) l refl (c .before .before .before .before .before .if4 .left) in
-    let e3 = row-none _ (firstBad (a .p) (a .n) (table (a .r) (a .s) (a .t .now))) (c .before .before .before .before .first-bad-row .ensures .0) (c .before .before .before .if5 .left) in
-    let e4 = row-found _ (firstBadPlace (a .p) (a .n) (a .x .now)) (c .before .before .first-bad-place .ensures .0) (c .before .if6 .taken) in
-    rw (z .prime, z .size, z .orders, e0, e1, e2, e3, e4) (reply-is (c .refuse5 .ensures) ∙ ap (λ (m : ℕ). reply 5 3 m 0) (c .before .before .first-bad-place .ensures .0))
-
-returns-7 : tie.Need-returns-7
-unfolding answer
-returns-7 c = λ d l.
-    let a = c .before .before .before .before .before .before .before .before .before .before .before .before .before .args in
-    let z = numbers-clear (a .p) (a .n) (table (a .r) (a .s) (a .t .now)) _ (c .before .before .before .before .before .before .before .before .before .before .numbers .ensures (a .t .now)) (c .before .before .before .before .before .before .before .before .if1 .left) in
-    let e0 = table-long (a .t .now) (a .n) _ (width (a .r) (a .s)) (c .before .before .before .before .before .before .before .row-width .ensures .0) (c .before .before .before .before .before .before .if2 .left) in
-    let e1 = le-ltb (length (a .x .now)) (a .n) (c .before .before .before .before .before .if3 .left) in
-    let e2 = room-long d (a .room) _ (a .n) l refl (c .before .before .before .before .if4 .left) in
-    let e3 = row-none _ (firstBad (a .p) (a .n) (table (a .r) (a .s) (a .t .now))) (c .before .before .before .first-bad-row .ensures .0) (c .before .before .if5 .left) in
-    let e4 = row-none _ (firstBadPlace (a .p) (a .n) (a .x .now)) (c .before .first-bad-place .ensures .0) (c .if6 .left) in
-    rw (z .prime, z .size, z .orders, e0, e1, e2, e3, e4) (numbers-accept (a .p) (a .n) (table (a .r) (a .s) (a .t .now)) _ (c .before .before .before .before .before .before .before .before .before .before .numbers .ensures (a .t .now)) (c .before .before .before .before .before .before .before .before .if1 .left))
+lengths : (c : tie.After-also-short2) → Checked (early (c .before .before .before .before .before .before)) (c .also-short2 .result)
+lengths c =
+    let numbers = c .before .before .before .numbers .ensures (c .before .before .before .before .before .before .args .t .now) in
+    c .also-short2 .ensures _ refl (c .before .also-short .ensures _ refl (c .before .before .also-short-table .ensures _ refl numbers))
 
 pub check-apply-spec : {M : Type 1} → statement M
 check-apply-spec =
     tie.close
     (tie.spec
     (λ c κs. search needs)
-    (λ c. λ d l. let a = c .before .before .before .before .before .args in numbers-stop (a .p) (a .n) (table (a .r) (a .s) (a .t .now)) _ (c .before .before .numbers .ensures (a .t .now)) (c .if1 .taken) _ _)
-    (λ c κs. let a = c .before .before .before .before .before .args in let z = within _ _ _ (numbers-clear (a .p) (a .n) (table (a .r) (a .s) (a .t .now)) _ (c .before .before .numbers .ensures (a .t .now)) (c .if1 .left)) in (z .1, z .2))
-    (λ c. let a = c .before .before .before .before .before .before .args in let z = within _ _ _ (numbers-clear (a .p) (a .n) (table (a .r) (a .s) (a .t .now)) _ (c .before .before .before .numbers .ensures (a .t .now)) (c .before .if1 .left)) in omega (arith, mul-le-mul {n₁ = a .n} {m₁ = c .row-width .result} {n₂ = 1024} {m₂ = 161} (z .0) (c .row-width .ensures .1)))
+    (λ c κs ok. let s = c .before .before .before in
+    let z = first-clear _ _ (c .numbers .ensures (s .args .t .now)) refl ok in sized mostSize _ (A s) (omega arith) (z 1) (z 2))
     (λ c κs. search needs)
-    returns-2
     (λ c κs. search needs)
-    returns-3
-    (λ c κs. search needs)
-    returns-4
-    (λ c κs. let a = c .before .before .before .before .before .before .before .before .before .args in let z = within _ _ _ (numbers-clear (a .p) (a .n) (table (a .r) (a .s) (a .t .now)) _ (c .before .before .before .before .before .before .numbers .ensures (a .t .now)) (c .before .before .before .before .if1 .left)) in (z .1, z .2, z .0, rw (c .before .before .before .row-width .ensures .0) at (c .before .before .if2 .left)))
-    (λ c. search needs)
-    (λ c κs. search needs)
-    returns-5
-    (λ c κs. search needs)
-    (λ c. search needs)
-    (λ c κs. search needs)
-    returns-6
-    returns-7)
+    (λ c κs ok. let z = first-clear _ _ (lengths c) refl ok in
+    (sized mostSize _ (A (c .before .before .before .before .before .before)) (omega arith) (z 1) (z 2), ltb-false _ _ (z 3)))
+    (λ c κs ok. ltb-false _ _ (first-clear _ _ (c .also-words .ensures _ refl (lengths (c .before))) refl ok 4))
+    (λ c d l. rw l (c .also-column .ensures _ refl (c .before .also-words .ensures _ refl (lengths (c .before .before))))))
