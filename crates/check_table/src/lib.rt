@@ -1,5 +1,4 @@
-// The checks of transpose, multiple, of calls that write a result of given length and of the solving calls, one after the other in the order of the refusal
-// table. `room` is the length of the result.
+// The checks of calls on one table, one after the other in the order of the refusal table. `room` is the length of the result.
 use check_numbers::Reply;
 ghost use mathlib.Core.List.{List};
 ghost use mathlib.Core.Path.{_≡_};
@@ -7,78 +6,38 @@ ghost use Prim.Native.Nat.{ℕ, _≤_};
 ghost use lib.ListN.{length};
 ghost use Rattle.table.specs.Limits.{upTo, mostSize};
 ghost use Rattle.table.specs.Words.{table as tab};
-ghost use Rattle.table.specs.Replies.{accept, answer};
 ghost use Rattle.table.specs.Calls.{resultChecks, transposeChecks, multipleChecks, systemChecks, solveEarlier};
-ghost use Rattle.check_numbers.specs.Replied.{replied};
+ghost use Rattle.check_steps.specs.Checked.{Checked};
 
-pub fn check_transpose(p: u32, n: u32, r: u32, s: u32, t: &[u32], room: usize) -> Reply
-    ensures { λ y. ⌜ ((d : List ℕ) → length d ≡ room → replied y ≡ answer (transposeChecks p n (tab r s (now (t .entry))) d) (accept 0)) ⌝ }
+// A table, and a result that has room for one like it: transpose and inverse.
+pub fn check_table(p: u32, n: u32, r: u32, s: u32, t: &[u32], room: usize) -> Reply
+    ensures { λ y. ⌜ ((d : List ℕ) → length d ≡ room → Checked (transposeChecks p n (tab r s (now (t .entry))) d) y) ⌝ }
 {
-    let y = check_numbers::numbers(p, n, r, s);
-    if y.number != 0 {
-        return y;
-    }
-    let size = n as usize;
-    let words = size * check_numbers::row_width(r as usize, s as usize);
-    if t.len() < words {
-        return check_numbers::refuse(4, 1, 0);
-    }
-    if room < words {
-        return check_numbers::refuse(4, 5, 0);
-    }
-    let row = check_words::first_bad_row(p, size, r as usize, s as usize, t);
-    if 0 < row {
-        return check_numbers::refuse(5, 1, row as u32);
-    }
-    y
+    let numbers = check_numbers::numbers(p, n, r, s);
+    let table = check_steps::also_short_table(numbers, 1, t.len(), n, r, s);
+    let result = check_steps::also_short_table(table, 5, room, n, r, s);
+    check_steps::also_words(result, 1, p, n, r, s, t)
 }
 
+// The same, and a factor c.
 pub fn check_multiple(p: u32, n: u32, r: u32, s: u32, c: u32, t: &[u32], room: usize) -> Reply
-    ensures { λ y. ⌜ ((d : List ℕ) → length d ≡ room → replied y ≡ answer (multipleChecks p n (tab r s (now (t .entry))) c d) (accept 0)) ⌝ }
+    ensures { λ y. ⌜ ((d : List ℕ) → length d ≡ room → Checked (multipleChecks p n (tab r s (now (t .entry))) c d) y) ⌝ }
 {
-    let y = check_numbers::numbers(p, n, r, s);
-    if y.number != 0 {
-        return y;
-    }
-    let size = n as usize;
-    let need = size * check_numbers::row_width(r as usize, s as usize);
-    if t.len() < need {
-        return check_numbers::refuse(4, 1, 0);
-    }
-    if room < need {
-        return check_numbers::refuse(4, 5, 0);
-    }
-    if p <= c {
-        return check_numbers::refuse(5, 0, 0);
-    }
-    let row = check_words::first_bad_row(p, size, r as usize, s as usize, t);
-    if 0 < row {
-        return check_numbers::refuse(5, 1, row as u32);
-    }
-    y
+    let numbers = check_numbers::numbers(p, n, r, s);
+    let table = check_steps::also_short_table(numbers, 1, t.len(), n, r, s);
+    let result = check_steps::also_short_table(table, 5, room, n, r, s);
+    let factor = check_steps::also(result, p <= c, 5, 0);
+    check_steps::also_words(factor, 1, p, n, r, s, t)
 }
 
-// Of a table, and of a result of which `least` words are asked.
+// A table, and a result of which `least` words are asked.
 pub fn check_result(p: u32, n: u32, r: u32, s: u32, t: &[u32], least: usize, room: usize) -> Reply
-    ensures { λ y. ⌜ ((d : List ℕ) → length d ≡ room
-        → replied y ≡ answer (resultChecks p n (tab r s (now (t .entry))) least d) (accept 0)) ⌝ }
+    ensures { λ y. ⌜ ((d : List ℕ) → length d ≡ room → Checked (resultChecks p n (tab r s (now (t .entry))) least d) y) ⌝ }
 {
-    let y = check_numbers::numbers(p, n, r, s);
-    if y.number != 0 {
-        return y;
-    }
-    let size = n as usize;
-    if t.len() < size * check_numbers::row_width(r as usize, s as usize) {
-        return check_numbers::refuse(4, 1, 0);
-    }
-    if room < least {
-        return check_numbers::refuse(4, 5, 0);
-    }
-    let row = check_words::first_bad_row(p, size, r as usize, s as usize, t);
-    if 0 < row {
-        return check_numbers::refuse(5, 1, row as u32);
-    }
-    y
+    let numbers = check_numbers::numbers(p, n, r, s);
+    let table = check_steps::also_short_table(numbers, 1, t.len(), n, r, s);
+    let result = check_steps::also_short(table, 5, room, least);
+    check_steps::also_words(result, 1, p, n, r, s, t)
 }
 
 // ---- Solving: the checks before the pivots. N may be at most `most`; `work` is the length of buffer 4,
@@ -98,35 +57,15 @@ pub fn check_system(
 ) -> Reply
     requires { ⌜ most ≤ mostSize ⌝ }
     ensures { λ y. ⌜ ((v d : List ℕ) → length v ≡ work → length d ≡ room
-        → replied y
-        ≡ answer (systemChecks p n (tab r s (now (t .entry))) (upTo most) need (now (x .entry)) v d) (accept 0)) ⌝ }
+        → Checked (systemChecks p n (tab r s (now (t .entry))) (upTo most) need (now (x .entry)) v d) y) ⌝ }
 {
-    let y = check_numbers::numbers_up_to(most, p, n, r, s);
-    if y.number != 0 {
-        return y;
-    }
-    let rows = n as usize;
-    if t.len() < rows * check_numbers::row_width(r as usize, s as usize) {
-        return check_numbers::refuse(4, 1, 0);
-    }
-    if x.len() < rows {
-        return check_numbers::refuse(4, 3, 0);
-    }
-    if work < need {
-        return check_numbers::refuse(4, 4, 0);
-    }
-    if room < rows {
-        return check_numbers::refuse(4, 5, 0);
-    }
-    let row = check_words::first_bad_row(p, rows, r as usize, s as usize, t);
-    if 0 < row {
-        return check_numbers::refuse(5, 1, row as u32);
-    }
-    let bad = check_words::first_bad_place(p, rows, x);
-    if 0 < bad {
-        return check_numbers::refuse(5, 3, bad as u32);
-    }
-    y
+    let numbers = check_numbers::numbers_up_to(most, p, n, r, s);
+    let table = check_steps::also_short_table(numbers, 1, t.len(), n, r, s);
+    let column = check_steps::also_short(table, 3, x.len(), n as usize);
+    let square = check_steps::also_short(column, 4, work, need);
+    let result = check_steps::also_short(square, 5, room, n as usize);
+    let words = check_steps::also_words(result, 1, p, n, r, s, t);
+    check_steps::also_column(words, p, n, x)
 }
 
 // Those of solve, whose work has N s words.
@@ -141,7 +80,7 @@ pub fn check_solve(
     room: usize,
 ) -> Reply
     ensures { λ y. ⌜ ((v d : List ℕ) → length v ≡ work → length d ≡ room
-        → replied y ≡ answer (solveEarlier p n (tab r s (now (t .entry))) (now (x .entry)) v d) (accept 0)) ⌝ }
+        → Checked (solveEarlier p n (tab r s (now (t .entry))) (now (x .entry)) v d) y) ⌝ }
 {
     let need = n as usize * s as usize;
     check_system(p, n, r, s, 1024, t, x, work, need, room)

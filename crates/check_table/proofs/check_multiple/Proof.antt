@@ -1,82 +1,42 @@
--- `check_table::check_multiple` meets its contract: the checks one after the other.
+-- `check_table::check_multiple` meets its contract: each step answers one check more.
 use borrow.Author.Needs.{needs}
-use borrow.Author.Tests.{le-leb, lt-leb}
-use mathlib.Core.Path.{ap, _∙_}
-use Prim.Native.Nat.{ℕ, _*_}
-use native.Mathlib.Nat.{mul-le-mul}
+use borrow.Author.Tests.{ltb-false}
+use mathlib.Core.List.{List, [], _∷_}
+use mathlib.Core.Path.{refl}
 use native.Mathlib.Omega.{arith}
-use Rattle.table.specs.Words.{table, width, firstBad}
-use Rattle.table.specs.Replies.{reply, answer}
-use Rattle.check_numbers.specs.CheckLaws.{reply-is}
-use Rattle.check_table.specs.Ladder.{numbers-stop, numbers-clear, numbers-accept, within, table-short, table-long, room-short, room-long, row-found, row-none}
+use Prim.Native.Nat.{_*_}
+use lib.Dec.{ltb}
+use lib.ListN.{length}
+use Rattle.table.specs.Limits.{standard, mostSize}
+use Rattle.table.specs.Words.{Table, table, width}
+use Rattle.table.specs.Replies.{Check, check, refuse}
+use Rattle.table.specs.Calls.{sizeChecks}
+use Rattle.check_steps.specs.Checked.{Checked}
+use Rattle.check_steps.specs.StepLaws.{first-clear, sized}
 use Rattle.check_table.proofs.check_multiple.Statement.{statement}
 use Rattle.check_table.proofs.check_multiple.Tie as tie
 
-returns-2 : tie.Need-returns-2
-unfolding answer
-returns-2 c = λ d l.
-    let a = c .before .before .before .before .before .before .before .args in
-    let z = numbers-clear (a .p) (a .n) (table (a .r) (a .s) (a .t .now)) _ (c .before .before .before .before .before .numbers .ensures (a .t .now)) (c .before .before .before .if1 .left) in
-    let e0 = table-short (a .t .now) (a .n) _ (width (a .r) (a .s)) (c .before .before .row-width .ensures .0) (c .before .if2 .taken) in
-    rw (z .prime, z .size, z .orders, e0) (reply-is (c .refuse .ensures))
+module _ (s : tie.Start) where
+  abbrev A : Table
+  A = table (s .args .r) (s .args .s) (s .args .t .now)
 
-returns-3 : tie.Need-returns-3
-unfolding answer
-returns-3 c = λ d l.
-    let a = c .before .before .before .before .before .before .before .before .args in
-    let z = numbers-clear (a .p) (a .n) (table (a .r) (a .s) (a .t .now)) _ (c .before .before .before .before .before .before .numbers .ensures (a .t .now)) (c .before .before .before .before .if1 .left) in
-    let e0 = table-long (a .t .now) (a .n) _ (width (a .r) (a .s)) (c .before .before .before .row-width .ensures .0) (c .before .before .if2 .left) in
-    let e1 = room-short d (a .room) _ (a .n * width (a .r) (a .s)) l (ap (λ (w : ℕ). a .n * w) (c .before .before .before .row-width .ensures .0)) (c .before .if3 .taken) in
-    rw (z .prime, z .size, z .orders, e0, e1) (reply-is (c .refuse2 .ensures))
+  -- the checks of the numbers and of the table's length
+  abbrev early : List Check
+  early = let a = s .args in sizeChecks (a .p) (a .n) standard A (check (ltb (length (a .t .now)) (a .n * width (a .r) (a .s))) (refuse 4 1 0) ∷ [])
 
-returns-4 : tie.Need-returns-4
-unfolding answer
-returns-4 c = λ d l.
-    let a = c .before .before .before .before .before .before .before .before .before .args in
-    let z = numbers-clear (a .p) (a .n) (table (a .r) (a .s) (a .t .now)) _ (c .before .before .before .before .before .before .before .numbers .ensures (a .t .now)) (c .before .before .before .before .before .if1 .left) in
-    let e0 = table-long (a .t .now) (a .n) _ (width (a .r) (a .s)) (c .before .before .before .before .row-width .ensures .0) (c .before .before .before .if2 .left) in
-    let e1 = room-long d (a .room) _ (a .n * width (a .r) (a .s)) l (ap (λ (w : ℕ). a .n * w) (c .before .before .before .before .row-width .ensures .0)) (c .before .before .if3 .left) in
-    let e2 = le-leb (a .p) (a .c) (c .before .if4 .taken) in
-    rw (z .prime, z .size, z .orders, e0, e1, e2) (reply-is (c .refuse3 .ensures))
-
-returns-5 : tie.Need-returns-5
-unfolding answer
-returns-5 c = λ d l.
-    let a = c .before .before .before .before .before .before .before .before .before .before .before .args in
-    let z = numbers-clear (a .p) (a .n) (table (a .r) (a .s) (a .t .now)) _ (c .before .before .before .before .before .before .before .before .before .numbers .ensures (a .t .now)) (c .before .before .before .before .before .before .before .if1 .left) in
-    let e0 = table-long (a .t .now) (a .n) _ (width (a .r) (a .s)) (c .before .before .before .before .before .before .row-width .ensures .0) (c .before .before .before .before .before .if2 .left) in
-    let e1 = room-long d (a .room) _ (a .n * width (a .r) (a .s)) l (ap (λ (w : ℕ). a .n * w) (c .before .before .before .before .before .before .row-width .ensures .0)) (c .before .before .before .before .if3 .left) in
-    let e2 = lt-leb (a .p) (a .c) (c .before .before .before .if4 .left) in
-    let e3 = row-found _ (firstBad (a .p) (a .n) (table (a .r) (a .s) (a .t .now))) (c .before .before .first-bad-row .ensures .0) (c .before .if5 .taken) in
-    rw (z .prime, z .size, z .orders, e0, e1, e2, e3) (reply-is (c .refuse4 .ensures) ∙ ap (λ (m : ℕ). reply 5 1 m 0) (c .before .before .first-bad-row .ensures .0))
-
-returns-6 : tie.Need-returns-6
-unfolding answer
-returns-6 c = λ d l.
-    let a = c .before .before .before .before .before .before .before .before .before .before .args in
-    let z = numbers-clear (a .p) (a .n) (table (a .r) (a .s) (a .t .now)) _ (c .before .before .before .before .before .before .before .before .numbers .ensures (a .t .now)) (c .before .before .before .before .before .before .if1 .left) in
-    let e0 = table-long (a .t .now) (a .n) _ (width (a .r) (a .s)) (c .before .before .before .before .before .row-width .ensures .0) (c .before .before .before .before .if2 .left) in
-    let e1 = room-long d (a .room) _ (a .n * width (a .r) (a .s)) l (ap (λ (w : ℕ). a .n * w) (c .before .before .before .before .before .row-width .ensures .0)) (c .before .before .before .if3 .left) in
-    let e2 = lt-leb (a .p) (a .c) (c .before .before .if4 .left) in
-    let e3 = row-none _ (firstBad (a .p) (a .n) (table (a .r) (a .s) (a .t .now))) (c .before .first-bad-row .ensures .0) (c .if5 .left) in
-    rw (z .prime, z .size, z .orders, e0, e1, e2, e3) (numbers-accept (a .p) (a .n) (table (a .r) (a .s) (a .t .now)) _ (c .before .before .before .before .before .before .before .before .numbers .ensures (a .t .now)) (c .before .before .before .before .before .before .if1 .left))
+long : (c : tie.After-also-short-table) → Checked (early (c .before .before .before)) (c .also-short-table .result)
+long c = c .also-short-table .ensures _ refl (c .before .numbers .ensures (c .before .before .before .args .t .now))
 
 pub check-multiple-spec : {M : Type 1} → statement M
 check-multiple-spec =
     tie.close
     (tie.spec
     (λ c κs. search needs)
-    (λ c. λ d l. let a = c .before .before .before .before .args in numbers-stop (a .p) (a .n) (table (a .r) (a .s) (a .t .now)) _ (c .before .before .numbers .ensures (a .t .now)) (c .if1 .taken) _ _)
-    (λ c κs. let a = c .before .before .before .before .args in let z = within _ _ _ (numbers-clear (a .p) (a .n) (table (a .r) (a .s) (a .t .now)) _ (c .before .before .numbers .ensures (a .t .now)) (c .if1 .left)) in (z .1, z .2))
-    (λ c. let a = c .before .before .before .before .before .args in let z = within _ _ _ (numbers-clear (a .p) (a .n) (table (a .r) (a .s) (a .t .now)) _ (c .before .before .before .numbers .ensures (a .t .now)) (c .before .if1 .left)) in omega (arith, mul-le-mul {n₁ = a .n} {m₁ = c .row-width .result} {n₂ = 1024} {m₂ = 161} (z .0) (c .row-width .ensures .1)))
+    (λ c κs ok. let z = first-clear _ _ (c .numbers .ensures (c .before .before .args .t .now)) refl ok in
+    sized mostSize _ (A (c .before .before)) (omega arith) (z 1) (z 2))
+    (λ c κs ok. let z = first-clear _ _ (long c) refl ok in sized mostSize _ (A (c .before .before .before)) (omega arith) (z 1) (z 2))
     (λ c κs. search needs)
-    returns-2
-    (λ c κs. search needs)
-    returns-3
-    (λ c κs. search needs)
-    returns-4
-    (λ c κs. let a = c .before .before .before .before .before .before .before .before .args in let z = within _ _ _ (numbers-clear (a .p) (a .n) (table (a .r) (a .s) (a .t .now)) _ (c .before .before .before .before .before .before .numbers .ensures (a .t .now)) (c .before .before .before .before .if1 .left)) in (z .1, z .2, z .0, rw (c .before .before .before .row-width .ensures .0) at (c .before .before .if2 .left)))
-    (λ c. search needs)
-    (λ c κs. search needs)
-    returns-5
-    returns-6)
+    (λ c κs ok. let z = first-clear _ _ (c .also .ensures _ refl (c .before .also-short-table2 .ensures _ refl (long (c .before .before)))) refl ok in
+    (sized mostSize _ (A (c .before .before .before .before .before)) (omega arith) (z 1) (z 2), ltb-false _ _ (z 3)))
+    (λ c d l. let room = c .before .before .also-short-table2 .ensures _ refl (long (c .before .before .before)) in
+    rw l (c .also-words .ensures _ refl (c .before .also .ensures _ refl room))))
