@@ -16,5 +16,5 @@ pub fn check_apply(p: u32, n: u32, r: u32, s: u32, t: &[u32], x: &[u32], room: u
     let column = check_steps::also_short(table, 3, x.len(), n as usize);
     let result = check_steps::also_short(column, 5, room, n as usize);
     let words = check_steps::also_words(result, 1, p, n, r, s, t);
-    check_steps::also_column(words, p, n, x)
+    check_steps::also_column(words, 3, p, n, x)
 }

@@ -25,8 +25,8 @@ pub fn check_multiple(p: u32, n: u32, r: u32, s: u32, c: u32, t: &[u32], room: u
 {
     let numbers = check_numbers::numbers(p, n, r, s);
     let table = check_steps::also_short_table(numbers, 1, t.len(), n, r, s);
-    let result = check_steps::also_short_table(table, 5, room, n, r, s);
-    let factor = check_steps::also(result, p <= c, 5, 0);
+    let lengths = check_steps::also_short_table(table, 5, room, n, r, s);
+    let factor = check_steps::also(lengths, p <= c, 5, 0);
     check_steps::also_words(factor, 1, p, n, r, s, t)
 }
 
@@ -65,7 +65,7 @@ pub fn check_system(
     let square = check_steps::also_short(column, 4, work, need);
     let result = check_steps::also_short(square, 5, room, n as usize);
     let words = check_steps::also_words(result, 1, p, n, r, s, t);
-    check_steps::also_column(words, p, n, x)
+    check_steps::also_column(words, 3, p, n, x)
 }
 
 // Those of solve, whose work has N s words.

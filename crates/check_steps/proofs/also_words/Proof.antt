@@ -1,11 +1,7 @@
 -- `check_steps::also_words` meets its contract.
 use borrow.Author.Needs.{needs}
 use native.Mathlib.Omega.{arith}
-use mathlib.Core.Path.{ap, _∙_}
-use Prim.Native.Nat.{ℕ}
-use Rattle.table.specs.Replies.{reply}
-use Rattle.check_numbers.specs.CheckLaws.{reply-is}
-use Rattle.check_steps.specs.StepLaws.{handed-on, found, not-found, row-found, row-none}
+use Rattle.check_steps.specs.StepLaws.{handed-on}
 use Rattle.check_steps.proofs.also_words.Statement.{statement}
 use Rattle.check_steps.proofs.also_words.Tie as tie
 
@@ -15,9 +11,5 @@ also-words-spec =
     (tie.spec
     (λ c cs r e. handed-on _ _ cs r e (c .if1 .taken))
     (λ c κs. let z = c .before .before .before .pre (c .if1 .left) in (z .0 .1, z .0 .2, z .0 .0, z .1))
-    (λ c. search needs)
-    (λ c κs. search needs)
-    (λ c cs r e. let row = c .before .before .first-bad-row .ensures .0 in
-    found _ _ cs r e (c .before .before .before .if1 .left) (row-found _ _ row (c .before .if2 .taken))
-    (reply-is (c .refuse .ensures) ∙ ap (λ (k : ℕ). reply 5 (c .before .before .before .before .before .before .args .buffer) k 0) row))
-    (λ c cs r e. not-found _ _ cs r e (c .before .before .if1 .left) (row-none _ _ (c .before .first-bad-row .ensures .0) (c .if2 .left))))
+    (λ c κs. omega (arith, c .first-bad-row .ensures .1))
+    (λ c cs r e. rw (c .before .first-bad-row .ensures .0) at (c .also-row .ensures cs r e)))
