@@ -6,9 +6,9 @@ ghost use mathlib.Core.Path.{_≡_};
 ghost use Prim.Native.Nat.{ℕ};
 ghost use lib.ListN.{length};
 ghost use Rattle.table.specs.Words.{table as tab};
-ghost use Rattle.table.specs.Replies.{accept, answer, badPlace};
+ghost use Rattle.table.specs.Replies.{badPlace};
 ghost use Rattle.table.specs.Calls.{entryChecks, matrixChecks};
-ghost use Rattle.check_numbers.specs.Replied.{replied};
+ghost use Rattle.check_steps.specs.Checked.{Checked};
 
 // Whether i or j is outside 1 to n.
 fn bad_places(n: u32, i: u32, j: u32) -> bool
@@ -21,28 +21,16 @@ fn bad_places(n: u32, i: u32, j: u32) -> bool
 }
 
 pub fn check_entry(p: u32, n: u32, r: u32, s: u32, i: u32, j: u32, t: &[u32]) -> Reply
-    ensures { λ y. ⌜ replied y ≡ answer (entryChecks p n (tab r s (now (t .entry))) i j) (accept 0) ⌝ }
+    ensures { λ y. ⌜ Checked (entryChecks p n (tab r s (now (t .entry))) i j) y ⌝ }
 {
-    let y = check_numbers::numbers(p, n, r, s);
-    if y.number != 0 {
-        return y;
-    }
-    if bad_places(n, i, j) {
-        return check_numbers::refuse(8, 0, 0);
-    }
-    let size = n as usize;
-    if t.len() < size * check_numbers::row_width(r as usize, s as usize) {
-        return check_numbers::refuse(4, 1, 0);
-    }
-    let row = check_words::first_bad_row(p, size, r as usize, s as usize, t);
-    if 0 < row {
-        return check_numbers::refuse(5, 1, row as u32);
-    }
-    y
+    let numbers = check_numbers::numbers(p, n, r, s);
+    let places = check_steps::also(numbers, bad_places(n, i, j), 8, 0);
+    let table = check_steps::also_short_table(places, 1, t.len(), n, r, s);
+    check_steps::also_words(table, 1, p, n, r, s, t)
 }
 
 pub fn check_matrix(p: u32, n: u32, r: u32, s: u32, t: &[u32], room: usize) -> Reply
-    ensures { λ y. ⌜ ((d : List ℕ) → length d ≡ room → replied y ≡ answer (matrixChecks p n (tab r s (now (t .entry))) d) (accept 0)) ⌝ }
+    ensures { λ y. ⌜ ((d : List ℕ) → length d ≡ room → Checked (matrixChecks p n (tab r s (now (t .entry))) d) y) ⌝ }
 {
     let size = n as usize;
     let need = size * size;
