@@ -10,11 +10,11 @@ ghost use Prim.Native.Nat.{ℕ, _≤_};
 ghost use lib.IntN.{ℤ};
 ghost use lib.ListN.{length, drop};
 ghost use Rattle.table.specs.Words.{firstBadPlace};
-ghost use Rattle.table.specs.Replies.{accept, answer, badPrime};
-ghost use Rattle.table.specs.Limits.{mostSize};
+ghost use Rattle.table.specs.Replies.{badPrime};
 ghost use Rattle.check_numbers.specs.Replied.{replied};
+ghost use Rattle.check_steps.specs.Checked.{Checked};
 ghost use Rattle.field_fractions.specs.TwoReady.{TwoReady};
-ghost use Rattle.call_fractions.specs.FractionCall.{largestPrime, numberChecks, lengthChecks, residueChecks, numeratorsW, denominatorsW, firstWithout};
+ghost use Rattle.call_fractions.specs.FractionCall.{largestPrime, numeratorsW, denominatorsW, firstWithout};
 ghost use Rattle.call_fractions.specs.FractionCall.{fractionsEarlier, fractionsReply, numeratorsAfter, denominatorsAfter};
 
 // ---- Checks.
@@ -28,61 +28,6 @@ fn bad_primes(p: u32, q: u32) -> bool
     check_numbers::bad_prime(q)
 }
 
-fn check_numbers(p: u32, q: u32, n: u32) -> Reply
-    ensures { λ a. ⌜ replied a ≡ answer (numberChecks p q n) (accept 0) ⌝ }
-{
-    if bad_primes(p, q) {
-        return check_numbers::refuse(1, 0, 0);
-    }
-    if p == q {
-        return check_numbers::refuse(11, 0, 0);
-    }
-    if check_numbers::bad_size(1024, n) {
-        return check_numbers::refuse(2, 0, 0);
-    }
-    check_numbers::accept(0)
-}
-
-// The lengths of the four buffers.
-fn check_lengths(
-    n: usize,
-    first: usize,
-    second: usize,
-    numerators: usize,
-    denominators: usize,
-) -> Reply
-    ensures { λ a. ⌜ ((x y : List ℕ) (ns : List ℤ) (ds : List ℕ) → length x ≡ first → length y ≡ second → length ns ≡ numerators → length ds ≡ denominators → replied a ≡ answer (lengthChecks n x y ns ds) (accept 0)) ⌝ }
-{
-    if first < n {
-        return check_numbers::refuse(4, 1, 0);
-    }
-    if second < n {
-        return check_numbers::refuse(4, 2, 0);
-    }
-    if numerators < n {
-        return check_numbers::refuse(4, 4, 0);
-    }
-    if denominators < n {
-        return check_numbers::refuse(4, 5, 0);
-    }
-    check_numbers::accept(0)
-}
-
-fn check_residues(p: u32, q: u32, n: usize, x: &[u32], y: &[u32]) -> Reply
-    requires { ⌜ (n ≤ mostSize) × (n ≤ length (now x)) × (n ≤ length (now y)) ⌝ }
-    ensures { λ a. ⌜ replied a ≡ answer (residueChecks p q n (now (x .entry)) (now (y .entry))) (accept 0) ⌝ }
-{
-    let first = check_words::first_bad_place(p, n, x);
-    if 0 < first {
-        return check_numbers::refuse(5, 1, first as u32);
-    }
-    let second = check_words::first_bad_place(q, n, y);
-    if 0 < second {
-        return check_numbers::refuse(5, 2, second as u32);
-    }
-    check_numbers::accept(0)
-}
-
 // The checks of the call but for the last, in the order of the refusal table. `numerators` and `denominators` are the
 // lengths of these buffers.
 fn check_fractions(
@@ -94,17 +39,19 @@ fn check_fractions(
     numerators: usize,
     denominators: usize,
 ) -> Reply
-    ensures { λ a. ⌜ ((ns : List ℤ) (ds : List ℕ) → length ns ≡ numerators → length ds ≡ denominators → replied a ≡ answer (fractionsEarlier p q n (now (x .entry)) (now (y .entry)) ns ds) (accept 0)) ⌝ }
+    ensures { λ a. ⌜ ((ns : List ℤ) (ds : List ℕ) → length ns ≡ numerators → length ds ≡ denominators
+        → Checked (fractionsEarlier p q n (now (x .entry)) (now (y .entry)) ns ds) a) ⌝ }
 {
-    let numbers = check_numbers(p, q, n);
-    if numbers.number != 0 {
-        return numbers;
-    }
-    let lengths = check_lengths(n as usize, x.len(), y.len(), numerators, denominators);
-    if lengths.number != 0 {
-        return lengths;
-    }
-    check_residues(p, q, n as usize, x, y)
+    let accepted = check_numbers::accept(0);
+    let primes = check_steps::also(accepted, bad_primes(p, q), 1, 0);
+    let different = check_steps::also(primes, p == q, 11, 0);
+    let size = check_steps::also(different, check_numbers::bad_size(1024, n), 2, 0);
+    let first = check_steps::also_short(size, 1, x.len(), n as usize);
+    let second = check_steps::also_short(first, 2, y.len(), n as usize);
+    let above = check_steps::also_short(second, 4, numerators, n as usize);
+    let below = check_steps::also_short(above, 5, denominators, n as usize);
+    let residues = check_steps::also_column(below, 1, p, n, x);
+    check_steps::also_column(residues, 2, q, n, y)
 }
 
 // ---- The two passes.

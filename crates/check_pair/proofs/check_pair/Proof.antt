@@ -1,101 +1,81 @@
--- `check_pair::check_pair` meets its contract: the checks one after the other.
+-- `check_pair::check_pair` meets its contract: each step answers one check more.
 use borrow.Author.Needs.{needs}
-use mathlib.Core.Path.{ap, _∙_}
-use mathlib.Core.List.{[]}
-use Prim.Native.Nat.{ℕ, _+_, _*_}
-use native.Mathlib.Nat.{mul-le-mul}
+use borrow.Author.Tests.{ltb-false}
+use mathlib.Core.List.{List, [], _∷_}
+use mathlib.Core.Path.{refl}
 use native.Mathlib.Omega.{arith}
-use Rattle.table.specs.Words.{table, width, firstBad}
-use Rattle.table.specs.Replies.{reply}
-use Rattle.check_numbers.specs.CheckLaws.{reply-is}
-use Rattle.check_table.specs.Ladder.{here, next, last, within, table-short, table-long, room-short, room-long, row-found, row-none}
-use Rattle.check_pair.specs.OrderLaws.{orders-stop, orders-clear, orders-accept, orders-pass}
+use Prim.Native.Nat.{_+_, _≤_}
+use lib.Dec.{ltb}
+use Rattle.table.specs.Limits.{standard, mostSize}
+use Rattle.table.specs.Words.{Table, table}
+use Rattle.table.specs.Replies.{Check, check, accept, refuse, badOrder}
+use Rattle.table.specs.Calls.{sizeChecks, checkShort, tableLength}
+use Rattle.check_steps.specs.Checked.{Checked}
+use Rattle.check_steps.specs.StepLaws.{first-stop, first-clear, sized, order-within}
 use Rattle.check_pair.proofs.check_pair.Statement.{statement}
 use Rattle.check_pair.proofs.check_pair.Tie as tie
 
-returns-2 : tie.Need-returns-2
-returns-2 c = λ d l.
-    let a = c .before .before .before .before .before .before .before .before .args in
-    let e = c .before .before .before .before .before .check-orders .ensures (a .t1 .now) (a .t2 .now) in
-    orders-pass (a .p) (a .n) (table (a .r1) (a .s1) (a .t1 .now)) (table (a .r2) (a .s2) (a .t2 .now)) _ e (c .before .before .before .if1 .left) _ _
-    (here _ _ (table-short (a .t1 .now) (a .n) _ (width (a .r1) (a .s1)) (c .before .before .row-width .ensures .0) (c .before .if2 .taken)) (reply-is (c .refuse .ensures)))
+module _ (s : tie.Start) where
+  abbrev A : Table
+  A = table (s .args .r1) (s .args .s1) (s .args .t1 .now)
 
-returns-3 : tie.Need-returns-3
-returns-3 c = λ d l.
-    let a = c .before .before .before .before .before .before .before .before .before .before .args in
-    let e = c .before .before .before .before .before .before .before .check-orders .ensures (a .t1 .now) (a .t2 .now) in
-    orders-pass (a .p) (a .n) (table (a .r1) (a .s1) (a .t1 .now)) (table (a .r2) (a .s2) (a .t2 .now)) _ e (c .before .before .before .before .before .if1 .left) _ _
-    (next _ _ _ (table-long (a .t1 .now) (a .n) _ (width (a .r1) (a .s1)) (c .before .before .before .before .row-width .ensures .0) (c .before .before .before .if2 .left))
-    (here _ _ (table-short (a .t2 .now) (a .n) _ (width (a .r2) (a .s2)) (c .before .before .row-width2 .ensures .0) (c .before .if3 .taken)) (reply-is (c .refuse2 .ensures))))
+  abbrev B : Table
+  B = table (s .args .r2) (s .args .s2) (s .args .t2 .now)
 
-returns-4 : tie.Need-returns-4
-returns-4 c = λ d l.
-    let a = c .before .before .before .before .before .before .before .before .before .before .before .before .args in
-    let e = c .before .before .before .before .before .before .before .before .before .check-orders .ensures (a .t1 .now) (a .t2 .now) in
-    orders-pass (a .p) (a .n) (table (a .r1) (a .s1) (a .t1 .now)) (table (a .r2) (a .s2) (a .t2 .now)) _ e (c .before .before .before .before .before .before .before .if1 .left) _ _
-    (next _ _ _ (table-long (a .t1 .now) (a .n) _ (width (a .r1) (a .s1)) (c .before .before .before .before .before .before .row-width .ensures .0) (c .before .before .before .before .before .if2 .left))
-    (next _ _ _ (table-long (a .t2 .now) (a .n) _ (width (a .r2) (a .s2)) (c .before .before .before .before .row-width2 .ensures .0) (c .before .before .before .if3 .left))
-    (here _ _ (room-short d (a .room) _ (a .n * width (a .r1 + a .r2) (a .s1 + a .s2)) l (ap (λ (w : ℕ). a .n * w) (c .before .before .row-width3 .ensures .0)) (c .before .if4 .taken)) (reply-is (c .refuse3 .ensures)))))
+  -- the orders added
+  abbrev AB : Table
+  AB = table (s .args .r1 + s .args .r2) (s .args .s1 + s .args .s2) []
 
-returns-5 : tie.Need-returns-5
-returns-5 c = λ d l.
-    let a = c .before .before .before .before .before .before .before .before .before .before .before .before .before .before .args in
-    let e = c .before .before .before .before .before .before .before .before .before .before .before .check-orders .ensures (a .t1 .now) (a .t2 .now) in
-    orders-pass (a .p) (a .n) (table (a .r1) (a .s1) (a .t1 .now)) (table (a .r2) (a .s2) (a .t2 .now)) _ e (c .before .before .before .before .before .before .before .before .before .if1 .left) _ _
-    (next _ _ _ (table-long (a .t1 .now) (a .n) _ (width (a .r1) (a .s1)) (c .before .before .before .before .before .before .before .before .row-width .ensures .0) (c .before .before .before .before .before .before .before .if2 .left))
-    (next _ _ _ (table-long (a .t2 .now) (a .n) _ (width (a .r2) (a .s2)) (c .before .before .before .before .before .before .row-width2 .ensures .0) (c .before .before .before .before .before .if3 .left))
-    (next _ _ _ (room-long d (a .room) _ (a .n * width (a .r1 + a .r2) (a .s1 + a .s2)) l (ap (λ (w : ℕ). a .n * w) (c .before .before .before .before .row-width3 .ensures .0)) (c .before .before .before .if4 .left))
-    (here _ _ (row-found _ (firstBad (a .p) (a .n) (table (a .r1) (a .s1) (a .t1 .now))) (c .before .before .first-bad-row .ensures .0) (c .before .if5 .taken)) (reply-is (c .refuse4 .ensures) ∙ ap (λ (m : ℕ). reply 5 1 m 0) (c .before .before .first-bad-row .ensures .0))))))
+  -- the checks of the prime, the size and the orders, then of the orders added, then of the lengths
+  abbrev orders : List Check → List Check
+  orders cs = sizeChecks (s .args .p) (s .args .n) standard A (check (badOrder (standard .order) (B .lower) (B .upper)) (refuse 3 2 0) ∷ cs)
 
-returns-6 : tie.Need-returns-6
-returns-6 c = λ d l.
-    let a = c .before .before .before .before .before .before .before .before .before .before .before .before .before .before .before .before .args in
-    let e = c .before .before .before .before .before .before .before .before .before .before .before .before .before .check-orders .ensures (a .t1 .now) (a .t2 .now) in
-    orders-pass (a .p) (a .n) (table (a .r1) (a .s1) (a .t1 .now)) (table (a .r2) (a .s2) (a .t2 .now)) _ e (c .before .before .before .before .before .before .before .before .before .before .before .if1 .left) _ _
-    (next _ _ _ (table-long (a .t1 .now) (a .n) _ (width (a .r1) (a .s1)) (c .before .before .before .before .before .before .before .before .before .before .row-width .ensures .0) (c .before .before .before .before .before .before .before .before .before .if2 .left))
-    (next _ _ _ (table-long (a .t2 .now) (a .n) _ (width (a .r2) (a .s2)) (c .before .before .before .before .before .before .before .before .row-width2 .ensures .0) (c .before .before .before .before .before .before .before .if3 .left))
-    (next _ _ _ (room-long d (a .room) _ (a .n * width (a .r1 + a .r2) (a .s1 + a .s2)) l (ap (λ (w : ℕ). a .n * w) (c .before .before .before .before .before .before .row-width3 .ensures .0)) (c .before .before .before .before .before .if4 .left))
-    (next _ _ _ (row-none _ (firstBad (a .p) (a .n) (table (a .r1) (a .s1) (a .t1 .now))) (c .before .before .before .before .first-bad-row .ensures .0) (c .before .before .before .if5 .left))
-    (here _ _ (row-found _ (firstBad (a .p) (a .n) (table (a .r2) (a .s2) (a .t2 .now))) (c .before .before .first-bad-row2 .ensures .0) (c .before .if6 .taken)) (reply-is (c .refuse5 .ensures) ∙ ap (λ (m : ℕ). reply 5 2 m 0) (c .before .before .first-bad-row2 .ensures .0)))))))
+  abbrev added : List Check → List Check
+  added cs = orders (check (badOrder (standard .order) (AB .lower) (AB .upper)) (refuse 6 0 0) ∷ cs)
 
-returns-7 : tie.Need-returns-7
-returns-7 c = λ d l.
-    let a = c .before .before .before .before .before .before .before .before .before .before .before .before .before .before .before .args in
-    let e = c .before .before .before .before .before .before .before .before .before .before .before .before .check-orders .ensures (a .t1 .now) (a .t2 .now) in
-    orders-pass (a .p) (a .n) (table (a .r1) (a .s1) (a .t1 .now)) (table (a .r2) (a .s2) (a .t2 .now)) _ e (c .before .before .before .before .before .before .before .before .before .before .if1 .left) _ _
-    (next _ _ _ (table-long (a .t1 .now) (a .n) _ (width (a .r1) (a .s1)) (c .before .before .before .before .before .before .before .before .before .row-width .ensures .0) (c .before .before .before .before .before .before .before .before .if2 .left))
-    (next _ _ _ (table-long (a .t2 .now) (a .n) _ (width (a .r2) (a .s2)) (c .before .before .before .before .before .before .before .row-width2 .ensures .0) (c .before .before .before .before .before .before .if3 .left))
-    (next _ _ _ (room-long d (a .room) _ (a .n * width (a .r1 + a .r2) (a .s1 + a .s2)) l (ap (λ (w : ℕ). a .n * w) (c .before .before .before .before .before .row-width3 .ensures .0)) (c .before .before .before .before .if4 .left))
-    (next _ _ _ (row-none _ (firstBad (a .p) (a .n) (table (a .r1) (a .s1) (a .t1 .now))) (c .before .before .before .first-bad-row .ensures .0) (c .before .before .if5 .left))
-    (next _ _ _ (row-none _ (firstBad (a .p) (a .n) (table (a .r2) (a .s2) (a .t2 .now))) (c .before .first-bad-row2 .ensures .0) (c .if6 .left))
-    (last (orders-accept (a .p) (a .n) (table (a .r1) (a .s1) (a .t1 .now)) (table (a .r2) (a .s2) (a .t2 .now)) _ e (c .before .before .before .before .before .before .before .before .before .before .if1 .left))))))))
+  abbrev lengths : List Check
+  lengths = let n = s .args .n in added (checkShort 1 (A .words) (tableLength n A) ∷ checkShort 2 (B .words) (tableLength n B)
+      ∷ check (ltb (s .args .room) (tableLength n AB)) (refuse 4 5 0) ∷ [])
+
+in-order : (c : tie.After-also) → Checked (orders (c .before .before .before .before .before) []) (c .also .result)
+in-order c = rw (c .before .bad-order .ensures) at (c .also .ensures _ refl (c .before .before .numbers .ensures (c .before .before .before .before .before .args .t1 .now)))
+
+both-in-order : (c : tie.After-also2) → Checked (added (c .before .before .before .before .before .before .before .before .before) []) (c .also2 .result)
+both-in-order c = rw (c .before .bad-order2 .ensures) at (c .also2 .ensures _ refl (in-order (c .before .before .before .before)))
+
+long : (c : tie.After-also-short-table3) → Checked (lengths (c .before .before .before .before .before .before .before .before .before .before .before .before)) (c .also-short-table3 .result)
+long c =
+    let tables = c .before .also-short-table2 .ensures _ refl (c .before .before .also-short-table .ensures _ refl (both-in-order (c .before .before .before))) in
+    c .also-short-table3 .ensures _ refl tables
+
+-- orders within the limits are small
+small : (c : tie.Else1) → let a = c .before .before .before .before .before .before .before .args in (a .r1 + a .r2 ≤ 16) × (a .s1 + a .s2 ≤ 16)
+small c =
+    let a = c .before .before .before .before .before .before .before .args in
+    let z = first-clear _ _ (in-order (c .before .before)) refl (c .if1 .left) in
+    let first = order-within (a .r1) (a .s1) (z 2) in
+    let second = order-within (a .r2) (a .s2) (z 3) in
+    (omega (arith, first .0, second .0), omega (arith, first .1, second .1))
 
 pub check-pair-spec : {M : Type 1} → statement M
 check-pair-spec =
     tie.close
     (tie.spec
     (λ c κs. search needs)
-    (λ c. λ d l. let a = c .before .before .before .before .before .args in orders-stop (a .p) (a .n) (table (a .r1) (a .s1) (a .t1 .now)) (table (a .r2) (a .s2) (a .t2 .now)) _ (c .before .before .check-orders .ensures (a .t1 .now) (a .t2 .now)) (c .if1 .taken) _ _)
-    (λ c κs. let a = c .before .before .before .before .before .args in let z = orders-clear (a .p) (a .n) (table (a .r1) (a .s1) []) (table (a .r2) (a .s2) []) _ (c .before .before .check-orders .ensures [] []) (c .if1 .left) in let w = within _ _ _ (z .first) in (w .1, w .2))
-    (λ c. let a = c .before .before .before .before .before .before .args in let z = orders-clear (a .p) (a .n) (table (a .r1) (a .s1) []) (table (a .r2) (a .s2) []) _ (c .before .before .before .check-orders .ensures [] []) (c .before .if1 .left) in let w = within _ _ _ (z .first) in omega (arith, mul-le-mul {n₁ = a .n} {m₁ = c .row-width .result} {n₂ = 1024} {m₂ = 161} (w .0) (c .row-width .ensures .1)))
     (λ c κs. search needs)
-    returns-2
-    (λ c κs. let a = c .before .before .before .before .before .before .before .args in let z = orders-clear (a .p) (a .n) (table (a .r1) (a .s1) []) (table (a .r2) (a .s2) []) _ (c .before .before .before .before .check-orders .ensures [] []) (c .before .before .if1 .left) in let w = within _ _ _ (z .second) in (w .1, w .2))
-    (λ c. let a = c .before .before .before .before .before .before .before .before .args in let z = orders-clear (a .p) (a .n) (table (a .r1) (a .s1) []) (table (a .r2) (a .s2) []) _ (c .before .before .before .before .before .check-orders .ensures [] []) (c .before .before .before .if1 .left) in let w = within _ _ _ (z .first) in omega (arith, mul-le-mul {n₁ = a .n} {m₁ = c .row-width2 .result} {n₂ = 1024} {m₂ = 161} (w .0) (c .row-width2 .ensures .1)))
     (λ c κs. search needs)
-    returns-3
-    (λ c. search needs)
-    (λ c. search needs)
-    (λ c κs. let a = c .before .before .before .before .before .before .before .before .before .args in let z = orders-clear (a .p) (a .n) (table (a .r1) (a .s1) []) (table (a .r2) (a .s2) []) _ (c .before .before .before .before .before .before .check-orders .ensures [] []) (c .before .before .before .before .if1 .left) in let w = within _ _ _ (z .added) in (w .1, w .2))
-    (λ c. let a = c .before .before .before .before .before .before .before .before .before .before .args in let z = orders-clear (a .p) (a .n) (table (a .r1) (a .s1) []) (table (a .r2) (a .s2) []) _ (c .before .before .before .before .before .before .before .check-orders .ensures [] []) (c .before .before .before .before .before .if1 .left) in let w = within _ _ _ (z .first) in omega (arith, mul-le-mul {n₁ = a .n} {m₁ = c .row-width3 .result} {n₂ = 1024} {m₂ = 161} (w .0) (c .row-width3 .ensures .1)))
+    (λ c d l. first-stop (orders (c .before .before .before .before .before .before .before) []) _ (in-order (c .before .before)) (c .if1 .taken) _ (accept 0))
+    (λ c. omega (arith, small c .0))
+    (λ c. omega (arith, small c .1))
     (λ c κs. search needs)
-    returns-4
-    (λ c κs. let a = c .before .before .before .before .before .before .before .before .before .before .before .args in let z = orders-clear (a .p) (a .n) (table (a .r1) (a .s1) []) (table (a .r2) (a .s2) []) _ (c .before .before .before .before .before .before .before .before .check-orders .ensures [] []) (c .before .before .before .before .before .before .if1 .left) in let w = within _ _ _ (z .first) in (w .1, w .2, w .0, rw (c .before .before .before .before .before .row-width .ensures .0) at (c .before .before .before .before .if2 .left)))
-    (λ c. search needs)
     (λ c κs. search needs)
-    returns-5
-    (λ c κs. let a = c .before .before .before .before .before .before .before .before .before .before .before .before .before .args in let z = orders-clear (a .p) (a .n) (table (a .r1) (a .s1) []) (table (a .r2) (a .s2) []) _ (c .before .before .before .before .before .before .before .before .before .before .check-orders .ensures [] []) (c .before .before .before .before .before .before .before .before .if1 .left) in let w = within _ _ _ (z .second) in (w .1, w .2, w .0, rw (c .before .before .before .before .before .row-width2 .ensures .0) at (c .before .before .before .before .if3 .left)))
-    (λ c. search needs)
-    (λ c κs. search needs)
-    returns-6
-    returns-7)
+    (λ c κs ok. let z = first-clear _ _ (both-in-order c) refl ok in sized mostSize _ (A (c .before .before .before .before .before .before .before .before .before)) (omega arith) (z 1) (z 2))
+    (λ c κs ok. let z = first-clear _ _ (c .also-short-table .ensures _ refl (both-in-order (c .before))) refl ok in
+    sized mostSize _ (B (c .before .before .before .before .before .before .before .before .before .before)) (omega arith) (z 1) (z 3))
+    (λ c κs ok. let first = c .before .also-short-table .ensures _ refl (both-in-order (c .before .before)) in
+    let z = first-clear _ _ (c .also-short-table2 .ensures _ refl first) refl ok in sized mostSize _ (AB (c .before .before .before .before .before .before .before .before .before .before .before)) (omega arith) (z 1) (z 4))
+    (λ c κs ok. let z = first-clear _ _ (long c) refl ok in
+    (sized mostSize _ (A (c .before .before .before .before .before .before .before .before .before .before .before .before)) (omega arith) (z 1) (z 2), ltb-false _ _ (z 5)))
+    (λ c κs ok. let z = first-clear _ _ (c .also-words .ensures _ refl (long (c .before))) refl ok in
+    (sized mostSize _ (B (c .before .before .before .before .before .before .before .before .before .before .before .before .before)) (omega arith) (z 1) (z 3), ltb-false _ _ (z 6)))
+    (λ c d l. rw l (c .also-words2 .ensures _ refl (c .before .also-words .ensures _ refl (long (c .before .before))))))
