@@ -1,20 +1,20 @@
 -- Laws of the checks of a file: its head's numbers and its length.
-use mathlib.Core.Bool.{true, false, not}
-use mathlib.Core.Logic.{_≢_}
-use mathlib.Core.Path.{_≡_, sym, ap, _∙_}
+use mathlib.Core.Bool.{Bool, true, false, not}
+use mathlib.Core.Path.{_≡_, refl, sym, _∙_}
 use mathlib.Core.List.{List}
 use Prim.Native.Nat.{ℕ, _+_, _*_, _≤_}
 use native.Mathlib.Nat.{mul-le-mul}
 use native.Mathlib.Omega.{arith}
 use lib.Dec.{eqb, leb}
 use lib.ListN.{length}
-use borrow.Author.Tests.{leb-true, eq-eqb, ne-eqb}
+use borrow.Author.Tests.{leb-true, eqb-true}
+use Rattle.lists.specs.ListLaws.{clash}
 use Rattle.table.specs.Limits.{standard, mostSize, mostWidth}
 use Rattle.table.specs.Words.{width}
 use Rattle.table.specs.Replies.{badSize, badOrder}
 use Rattle.table.specs.RowFile.{fileBytes, headN, headR, headS}
 use Rattle.table.specs.CallLaws.{both-hold}
-use Rattle.check_table.specs.Ladder.{order-within}
+use Rattle.check_steps.specs.StepLaws.{order-within}
 use Rattle.check_records.specs.Filed.{Headed}
 
 -- n rows of w words, and n records
@@ -36,19 +36,18 @@ headed f n r s en er es size orders = let o = order-within (headR f) (headS f) o
 }
 
 module _ (f : List ℕ) (n r s : ℕ) (h : Headed f n r s) where
-  -- the file's bytes and the table's words, as code counts them by a row's width w; the test of the file's length
+  -- the file's bytes and the table's words, as code counts them by a row's width w
   module _ (w : ℕ) (q : w ≡ width r s) where
     pub words-are : n * w ≡ headN f * width (headR f) (headS f)
     words-are = rw (h .size, h .lower, h .upper, q)
 
-    bytes-are : 4 * (5 + n * (1 + w)) ≡ fileBytes (headN f) (headR f) (headS f)
+    pub bytes-are : 4 * (5 + n * (1 + w)) ≡ fileBytes (headN f) (headR f) (headS f)
     bytes-are = rw (h .size, h .lower, h .upper, q)
 
-    pub length-off : length f ≢ 4 * (5 + n * (1 + w)) → not (eqb (length f) (fileBytes (headN f) (headR f) (headS f))) ≡ true
-    length-off z = ap not (ne-eqb (length f) _ (λ e. z (e ∙ sym bytes-are)))
-
-    pub length-on : length f ≡ 4 * (5 + n * (1 + w)) → not (eqb (length f) (fileBytes (headN f) (headR f) (headS f))) ≡ false
-    length-on e = ap not (eq-eqb (length f) _ (e ∙ bytes-are))
-
-    pub length-is : length f ≡ 4 * (5 + n * (1 + w)) → length f ≡ fileBytes n r s
-    length-is e = e ∙ ap (λ (v : ℕ). 4 * (5 + n * (1 + v))) q
+  -- the length that has passed its test
+  pub length-is : not (eqb (length f) (fileBytes (headN f) (headR f) (headS f))) ≡ false → length f ≡ fileBytes n r s
+  length-is e = go (eqb (length f) (fileBytes (headN f) (headR f) (headS f))) refl e
+    where
+      go : (b : Bool) → eqb (length f) (fileBytes (headN f) (headR f) (headS f)) ≡ b → not b ≡ false → length f ≡ fileBytes n r s
+      go true q e = eqb-true (length f) _ q ∙ rw (h .size, h .lower, h .upper)
+      go false q e = clash e

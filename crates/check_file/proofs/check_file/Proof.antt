@@ -1,69 +1,80 @@
--- `check_file::check_file` meets its contract: the checks one after the other.
+-- `check_file::check_file` meets its contract: the lengths by steps, then the chain, then the words.
 use borrow.Author.Needs.{needs}
-use mathlib.Core.Path.{sym, ap, _∙_}
-use Prim.Native.Nat.{ℕ, _-_}
+use mathlib.Core.Bool.{not}
+use mathlib.Core.List.{List, [], _∷_}
+use mathlib.Core.Path.{_≡_, refl, sym, ap, _∙_}
 use native.Mathlib.Omega.{arith}
-use denote.Ref.{now}
-use Rattle.table.specs.Replies.{reply, accept}
-use Rattle.table.specs.RowFile.{firstBroken, firstBadInFile}
+use Prim.Native.Nat.{ℕ, _+_, _*_, _-_, _≤_}
+use lib.Dec.{ltb, eqb}
+use lib.ListN.{length}
+use Rattle.table.specs.Words.{width}
+use Rattle.table.specs.Replies.{Reply, Check, check, checkRow, reply, accept, refuse, answer}
+use Rattle.table.specs.RowFile.{fileBytes, headP, headN, headR, headS, firstBroken, firstBadInFile}
 use Rattle.check_numbers.specs.CheckLaws.{reply-is}
-use Rattle.check_table.specs.Ladder.{here, next, last, room-short, room-long, row-found, row-none}
-use Rattle.check_file.specs.FileLaws.{rows-few, records-few, words-are, length-off, length-on, length-is}
+use Rattle.check_steps.specs.Checked.{Checked}
+use Rattle.check_steps.specs.StepLaws.{here, next, last, first-stop, first-clear, first-pass, row-found, row-none}
+use Rattle.check_file.specs.FileChecks.{fileChecks}
+use Rattle.check_file.specs.FileLaws.{rows-few, records-few, words-are, bytes-are, length-is}
 use Rattle.check_file.proofs.check_file.Statement.{statement}
 use Rattle.check_file.proofs.check_file.Tie as tie
 
-returns : tie.Need-returns
-returns c = λ d l. let f = now (c .before .before .before .before .args .f) in let h = c .before .before .before .before .pre .0 in let q = c .before .before .row-width .ensures .0 in
-    here _ _ (length-off f _ _ _ h _ q (c .before .if1 .taken)) (reply-is (c .refuse .ensures))
+module _ (s : tie.Start) where
+  abbrev file : List ℕ
+  file = s .args .f .now
 
-returns-2 : tie.Need-returns-2
-returns-2 c = λ d l. let a = c .before .before .before .before .before .args in let f = now (a .f) in let h = c .before .before .before .before .before .pre .0 in let q = c .before .before .before .row-width .ensures .0 in
-    next _ _ _ (length-on f _ _ _ h _ q (c .before .before .if1 .left))
-    (here _ _ (room-short d (a .room) _ _ l (words-are f _ _ _ h _ q) (c .before .if2 .taken)) (reply-is (c .refuse2 .ensures)))
+  -- the checks of the lengths, and those after them
+  abbrev lengths : List Check
+  lengths = check (not (eqb (length file) (fileBytes (headN file) (headR file) (headS file)))) (refuse 9 6 0)
+      ∷ check (ltb (s .args .room) (headN file * width (headR file) (headS file))) (refuse 4 5 0) ∷ []
 
-returns-3 : tie.Need-returns-3
-returns-3 c = λ d l. let a = c .before .before .before .before .before .before .before .args in let f = now (a .f) in let h = c .before .before .before .before .before .before .before .pre .0 in let q = c .before .before .before .before .before .row-width .ensures .0 in
-    next _ _ _ (length-on f _ _ _ h _ q (c .before .before .before .before .if1 .left))
-    (next _ _ _ (room-long d (a .room) _ _ l (words-are f _ _ _ h _ q) (c .before .before .before .if2 .left))
-    (here _ _ (row-found _ (firstBroken f) (c .before .before .first-broken .ensures .0) (c .before .if3 .taken)) (reply-is (c .refuse3 .ensures) ∙ ap (λ (m : ℕ). reply 10 6 (m - 1) 0) (c .before .before .first-broken .ensures .0))))
+  abbrev others : List Check
+  others = checkRow (firstBroken file) (λ k. refuse 10 6 (k - 1)) ∷ checkRow (firstBadInFile file) (refuse 5 6) ∷ []
 
-returns-4 : tie.Need-returns-4
-returns-4 c = λ d l. let a = c .before .before .before .before .before .before .before .before .before .args in let f = now (a .f) in let h = c .before .before .before .before .before .before .before .before .before .pre .0 in let q = c .before .before .before .before .before .before .before .row-width .ensures .0 in
-    next _ _ _ (length-on f _ _ _ h _ q (c .before .before .before .before .before .before .if1 .left))
-    (next _ _ _ (room-long d (a .room) _ _ l (words-are f _ _ _ h _ q) (c .before .before .before .before .before .if2 .left))
-    (next _ _ _ (row-none _ (firstBroken f) (c .before .before .before .before .first-broken .ensures .0) (c .before .before .before .if3 .left))
-    (here _ _ (row-found _ (firstBadInFile f) (c .before .before .first-bad .ensures .0) (c .before .if4 .taken)) (reply-is (c .refuse4 .ensures) ∙ ap (λ (m : ℕ). reply 5 6 m 0) (c .before .before .first-bad .ensures .0)))))
+long : (c : tie.After-also-short) → Checked (lengths (c .before .before .before .before .before)) (c .also-short .result)
+long c =
+    let s = c .before .before .before .before .before in
+    let q = c .before .before .before .row-width .ensures .0 in
+    let bytes = c .before .also .ensures [] refl (last (reply-is (c .before .before .accept .ensures))) in
+    rw (bytes-are (file s) _ _ _ (s .pre .0) _ q, words-are (file s) _ _ _ (s .pre .0) _ q) at (c .also-short .ensures _ refl bytes)
 
-returns-5 : tie.Need-returns-5
-returns-5 c = λ d l. let a = c .before .before .before .before .before .before .before .before .before .args in let f = now (a .f) in let h = c .before .before .before .before .before .before .before .before .before .pre .0 in let q = c .before .before .before .before .before .before .before .row-width .ensures .0 in
-    next _ _ _ (length-on f _ _ _ h _ q (c .before .before .before .before .before .before .if1 .left))
-    (next _ _ _ (room-long d (a .room) _ _ l (words-are f _ _ _ h _ q) (c .before .before .before .before .before .if2 .left))
-    (next _ _ _ (row-none _ (firstBroken f) (c .before .before .before .before .first-broken .ensures .0) (c .before .before .before .if3 .left))
-    (next _ _ _ (row-none _ (firstBadInFile f) (c .before .before .first-bad .ensures .0) (c .before .if4 .left))
-    (last (reply-is (c .accept .ensures) ∙ ap accept (sym (c .before .before .before .before .before .before .before .before .before .pre .1)))))))
+-- once the lengths are right, the others decide
+decide : (c : tie.Else1) (d : List ℕ) → length d ≡ c .before .before .before .before .before .before .before .args .room → {w : Reply} → let f = file (c .before .before .before .before .before .before .before) in
+    w ≡ answer (others (c .before .before .before .before .before .before .before)) (accept (headP f)) → w ≡ answer (fileChecks f d) (accept (headP f))
+decide c d l q = rw l (first-pass _ _ (long (c .before .before)) refl (c .if1 .left) _ _ q)
+
+bytes : (c : tie.Else1) → let a = c .before .before .before .before .before .before .before .args in length (file (c .before .before .before .before .before .before .before)) ≡ fileBytes (a .n) (a .r) (a .s)
+bytes c = length-is _ _ _ _ (c .before .before .before .before .before .before .before .pre .0) (first-clear _ _ (long (c .before .before)) refl (c .if1 .left) 0)
+
+records : (c : tie.After-row-width) → let n = c .before .before .args .n in n * (1 + c .row-width .result) ≤ 165888
+records c = records-few (c .before .before .args .n) _ (c .before .before .pre .0 .most) (c .row-width .ensures .1)
 
 pub check-file-spec : {M : Type 1} → statement M
 check-file-spec =
     tie.close
     (tie.spec
     (λ c κs. (c .before .pre .0 .lower-most, c .before .pre .0 .upper-most))
-    (λ c. omega (arith, c .row-width .ensures .1))
-    (λ c. omega (arith, records-few (c .before .before .args .n) _ (c .before .before .pre .0 .most) (c .row-width .ensures .1)))
-    (λ c. omega (arith, records-few (c .before .before .args .n) _ (c .before .before .pre .0 .most) (c .row-width .ensures .1)))
-    (λ c. omega (arith, records-few (c .before .before .args .n) _ (c .before .before .pre .0 .most) (c .row-width .ensures .1)))
     (λ c κs. search needs)
-    returns
-    (λ c. omega (arith, rows-few (c .before .before .before .args .n) _ (c .before .before .before .pre .0 .most) (c .before .row-width .ensures .1)))
+    (λ c. omega (arith, c .before .row-width .ensures .1))
+    (λ c. omega (arith, records (c .before)))
+    (λ c. omega (arith, records (c .before)))
+    (λ c. omega (arith, records (c .before)))
     (λ c κs. search needs)
-    returns-2
-    (λ c κs. (c .before .before .before .before .pre .0, length-is (now (c .before .before .before .before .args .f)) _ _ _ (c .before .before .before .before .pre .0) _ (c .before .before .row-width .ensures .0) (c .before .if1 .left)))
+    (λ c. let s = c .before .before .before .before in omega (arith, rows-few (s .args .n) _ (s .pre .0 .most) (c .before .before .row-width .ensures .1)))
+    (λ c κs. search needs)
+    (λ c d l. rw l (first-stop (lengths (c .before .before .before .before .before .before .before)) _ (long (c .before .before)) (c .if1 .taken) _ _))
+    (λ c κs. (c .before .before .before .before .before .before .before .pre .0, bytes c))
     (λ c. search needs)
-    (λ c. omega (arith, c .before .first-broken .ensures .1, c .before .before .before .before .before .before .pre .0 .most))
+    (λ c. omega (arith, c .before .first-broken .ensures .1, c .before .before .before .before .before .before .before .before .before .pre .0 .most))
     (λ c κs. search needs)
-    returns-3
-    (λ c κs. (c .before .before .before .before .before .before .pre .0, length-is (now (c .before .before .before .before .before .before .args .f)) _ _ _ (c .before .before .before .before .before .before .pre .0) _ (c .before .before .before .before .row-width .ensures .0) (c .before .before .before .if1 .left), c .before .before .before .before .before .before .pre .1, sym (c .before .first-broken .ensures .0) ∙ omega (arith, c .if3 .left)))
-    (λ c. omega (arith, c .before .first-bad .ensures .1, c .before .before .before .before .before .before .before .before .pre .0 .most))
+    (λ c d l. let e = c .before .before .first-broken .ensures .0 in
+    decide (c .before .before .before) d l (here _ _ (row-found _ _ e (c .before .if2 .taken)) (reply-is (c .refuse .ensures) ∙ ap (λ (m : ℕ). reply 10 6 (m - 1) 0) e)))
+    (λ c κs. (c .before .before .before .before .before .before .before .before .before .pre .0, bytes (c .before .before), c .before .before .before .before .before .before .before .before .before .pre .1, sym (c .before .first-broken .ensures .0) ∙ omega (arith, c .if2 .left)))
+    (λ c. omega (arith, c .before .first-bad .ensures .1, c .before .before .before .before .before .before .before .before .before .before .before .pre .0 .most))
     (λ c κs. search needs)
-    returns-4
+    (λ c d l. let e = c .before .before .first-bad .ensures .0 in
+    decide (c .before .before .before .before .before) d l (next _ _ _ (row-none _ _ (c .before .before .before .before .first-broken .ensures .0) (c .before .before .before .if2 .left))
+    (here _ _ (row-found _ _ e (c .before .if3 .taken)) (reply-is (c .refuse2 .ensures) ∙ ap (λ (m : ℕ). reply 5 6 m 0) e))))
     (λ c κs. search needs)
-    returns-5)
+    (λ c d l. decide (c .before .before .before .before .before) d l (next _ _ _ (row-none _ _ (c .before .before .before .before .first-broken .ensures .0) (c .before .before .before .if2 .left))
+    (next _ _ _ (row-none _ _ (c .before .before .first-bad .ensures .0) (c .before .if3 .left))
+    (last (reply-is (c .accept2 .ensures) ∙ ap accept (sym (c .before .before .before .before .before .before .before .before .before .before .before .before .pre .1))))))))
