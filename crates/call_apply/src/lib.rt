@@ -3,9 +3,9 @@
 use check_numbers::Reply;
 use field::Modulus;
 ghost use mathlib.Core.Path.{_≡_};
-ghost use mathlib.Core.List.{_++_};
 ghost use Prim.Native.Nat.{_≤_};
-ghost use lib.ListN.{length, drop};
+ghost use lib.ListN.{length};
+ghost use Rattle.lists.specs.Lists.{begun};
 ghost use Rattle.field.specs.Ready.{Ready};
 ghost use Rattle.table.specs.Words.{table as tab};
 ghost use Rattle.table.specs.Results.{applyW};
@@ -25,7 +25,7 @@ pub fn apply_words(
     result: &mut [u32],
 )
     requires { ⌜ Ready m × Good (m .p) n (tab r s (now table)) × Within (m .p) (now column) 0 n × (n ≤ length (now result)) ⌝ }
-    ensures { λ _. ⌜ now (result .exit) ≡ applyW (m .p) n (tab r s (now (table .entry))) (now (column .entry)) ++ drop n (now (result .entry)) ⌝ }
+    ensures { λ _. ⌜ now (result .exit) ≡ begun n (applyW (m .p) n (tab r s (now (table .entry))) (now (column .entry))) (now (result .entry)) ⌝ }
 {
     let w = check_numbers::row_width(r, s);
     sweep_apply::sweep_down(m, n, w, table, row_halves::lower(r), column, result);

@@ -2,12 +2,11 @@
 use check_numbers::Reply;
 use field::Modulus;
 ghost use mathlib.Core.Bool.{true, false};
-ghost use mathlib.Core.List.{_++_};
 ghost use mathlib.Core.Path.{_≡_};
 ghost use Prim.Native.Nat.{ℕ, _*_, _<_, _≤_};
-ghost use lib.ListN.{length, getD, drop};
+ghost use lib.ListN.{length, getD};
 ghost use Rattle.field.specs.Ready.{Ready};
-ghost use Rattle.lists.specs.Lists.{tabulate};
+ghost use Rattle.lists.specs.Lists.{tabulate, begun};
 ghost use Rattle.table.specs.Words.{table as tab};
 ghost use Rattle.check_numbers.specs.Replied.{replied};
 ghost use Rattle.check_numbers.specs.Passed.{Good};
@@ -33,9 +32,9 @@ fn solve_words(
         × (n * n ≤ length (now square))
         × (n ≤ length (now result)) ⌝ }
     ensures { λ found. ⌜ found ≡ nonsingularW (m .p) n (tab r s (now (table .entry))) ⌝ }
-    ensures { λ _. ⌜ now (square .exit) ≡ tabulate (n * n) (λ e. 0) ++ drop (n * n) (now (square .entry)) ⌝ }
+    ensures { λ _. ⌜ now (square .exit) ≡ begun (n * n) (tabulate (n * n) (λ e. 0)) (now (square .entry)) ⌝ }
     ensures { λ found. ⌜ (found ≡ true
-        → now (result .exit) ≡ denseW (m .p) n (tab r s (now (table .entry))) (now (column .entry)) ++ drop n (now (result .entry)))
+        → now (result .exit) ≡ begun n (denseW (m .p) n (tab r s (now (table .entry))) (now (column .entry))) (now (result .entry)))
         × (found ≡ false → now (result .exit) ≡ now (result .entry)) ⌝ }
 {
     let mut x = [0u32; 256];

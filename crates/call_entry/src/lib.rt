@@ -2,12 +2,11 @@
 use check_numbers::Reply;
 use field::Modulus;
 ghost use mathlib.Core.Path.{_≡_};
-ghost use mathlib.Core.List.{_++_};
 ghost use Prim.Native.Nat.{_*_, _<_, _≤_};
-ghost use lib.ListN.{length, drop};
+ghost use lib.ListN.{length};
 ghost use Rattle.field.specs.Ready.{Ready};
 ghost use Rattle.field.specs.Residue.{val};
-ghost use Rattle.lists.specs.Lists.{tabulate};
+ghost use Rattle.lists.specs.Lists.{tabulate, begun};
 ghost use Rattle.table.specs.Words.{table as tab, matrixOf};
 ghost use Rattle.table.specs.Results.{entryW, matrixW};
 ghost use Rattle.table.specs.Calls.{entryReply, matrixReply, matrixAfter};
@@ -66,7 +65,7 @@ pub fn matrix_row(m: Modulus, n: usize, r: usize, s: usize, t: &[u32], i: usize,
 // The whole matrix, row by row. The dense solve fills its square by this.
 pub fn matrix_rows(m: Modulus, n: usize, r: usize, s: usize, t: &[u32], result: &mut [u32])
     requires { ⌜ Ready m × Good (m .p) n (tab r s (now t)) × (n * n ≤ length (now result)) ⌝ }
-    ensures { λ _. ⌜ now (result .exit) ≡ matrixW (m .p) n (tab r s (now (t .entry))) ++ drop (n * n) (now (result .entry)) ⌝ }
+    ensures { λ _. ⌜ now (result .exit) ≡ begun (n * n) (matrixW (m .p) n (tab r s (now (t .entry)))) (now (result .entry)) ⌝ }
 {
     let mut at = 0;
     let mut i = 0;

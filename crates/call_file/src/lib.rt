@@ -1,12 +1,12 @@
 // The calls on row files, read and write: each runs its checks in the order of its own, then does its work. No contract asks anything of the caller.
 use check_numbers::Reply;
 ghost use mathlib.Core.Path.{_≡_};
-ghost use mathlib.Core.List.{[], _∷_, _++_};
+ghost use mathlib.Core.List.{[], _∷_};
 ghost use Prim.Native.Nat.{ℕ, suc, _+_, _*_, _<_, _≤_};
 ghost use lib.Dec.{eqb};
-ghost use lib.ListN.{length, drop};
+ghost use lib.ListN.{length};
 ghost use Rattle.algebra.specs.Generators.{pick};
-ghost use Rattle.lists.specs.Lists.{rowsOf};
+ghost use Rattle.lists.specs.Lists.{rowsOf, begun};
 ghost use Rattle.table.specs.Words.{table as tab, width, gens, rowWords, firstBad};
 ghost use Rattle.table.specs.Replies.{reply};
 ghost use Rattle.table.specs.RowFile.{bytesOf, fileBytes, headP, firstBroken, firstBadInFile, readW};
@@ -21,7 +21,7 @@ ghost use Rattle.check_records.specs.Filed.{Headed};
 fn read_rows(f: &[u8], n: usize, r: usize, s: usize, result: &mut [u32])
     requires { ⌜ Headed (now f) n r s × (length (now f) ≡ fileBytes n r s) × (0 < headP (now f)) × (firstBroken (now f) ≡ 0) × (firstBadInFile (now f) ≡ 0)
         × (n * width r s ≤ length (now result)) ⌝ }
-    ensures { λ _. ⌜ now (result .exit) ≡ readW (now (f .entry)) ++ drop (n * width r s) (now (result .entry)) ⌝ }
+    ensures { λ _. ⌜ now (result .exit) ≡ begun (n * width r s) (readW (now (f .entry))) (now (result .entry)) ⌝ }
 {
     let w = check_numbers::row_width(r, s);
     let mut m = file_words::word(f, 4) as usize;
@@ -60,7 +60,7 @@ pub fn read(file: &[u8], result: &mut [u32]) -> Reply
 // The head of a file: the prime, the size, the orders and the first record.
 fn write_head(p: u32, n: u32, r: u32, s: u32, out: &mut [u8])
     requires { ⌜ 20 ≤ length (now out) ⌝ }
-    ensures { λ _. ⌜ now (out .exit) ≡ bytesOf (p ∷ n ∷ r ∷ s ∷ 1 ∷ []) ++ drop 20 (now (out .entry)) ⌝ }
+    ensures { λ _. ⌜ now (out .exit) ≡ begun 20 (bytesOf (p ∷ n ∷ r ∷ s ∷ 1 ∷ [])) (now (out .entry)) ⌝ }
 {
     file_words::put_word(out, 0, p);
     file_words::put_word(out, 4, n);
@@ -73,9 +73,8 @@ fn write_head(p: u32, n: u32, r: u32, s: u32, out: &mut [u8])
 fn write_rows(n: usize, r: usize, s: usize, t: &[u32], out: &mut [u8])
     requires { ⌜ (r ≤ 8) × (s ≤ 8) × (n ≤ mostSize) × (n * width r s ≤ length (now t)) × (n * (4 * (1 + width r s)) ≤ length (now out)) ⌝ }
     ensures { λ _. ⌜ ((p : ℕ) → 0 < p → firstBad p n (tab r s (now (t .entry))) ≡ 0
-        → now (out .exit) ≡ rowsOf n
-        (λ k. bytesOf (pick (eqb (suc k) n) 0 (suc (suc k)) ∷ rowWords p n r s k (gens p n (tab r s (now (t .entry))) k))) ++ drop
-        (n * (4 * (1 + width r s))) (now (out .entry))) ⌝ }
+        → now (out .exit) ≡ begun (n * (4 * (1 + width r s))) (rowsOf n
+        (λ k. bytesOf (pick (eqb (suc k) n) 0 (suc (suc k)) ∷ rowWords p n r s k (gens p n (tab r s (now (t .entry))) k)))) (now (out .entry))) ⌝ }
 {
     let w = check_numbers::row_width(r, s);
     let size = 4 * (1 + w);

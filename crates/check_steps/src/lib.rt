@@ -38,7 +38,12 @@ pub fn also_short_table(y: Reply, buffer: u32, room: usize, n: u32, r: u32, s: u
     if y.number != 0 {
         return y;
     }
-    also_short(y, buffer, room, n as usize * check_numbers::row_width(r as usize, s as usize))
+    also_short(
+        y,
+        buffer,
+        room,
+        n as usize * check_numbers::row_width(r as usize, s as usize),
+    )
 }
 
 // A row, from 1, that code's search has found; 0 where it found none.

@@ -6,7 +6,7 @@ ghost use lib.ListN.{length, getD, drop};
 ghost use Rattle.algebra.specs.Kinds.{Kind};
 ghost use Rattle.table.specs.Words.{width, place, Used, rowGens, rowWords};
 ghost use Rattle.table.specs.RowFile.{fileWord, bytesOf};
-ghost use Rattle.row_words.specs.Rows.{copiedHalf};
+ghost use Rattle.row_words.specs.Rows.{copiedHalf, Appends, halfSize};
 
 // The blocks p, a, q or g, b, h, of order o, from word `from` of the record on, to `at` on.
 // Whether they are used: `first` for the first one, `last` for the last one, both for the one between.
@@ -19,9 +19,10 @@ fn read_part(
     part: &[u8],
     from: usize,
 )
-    requires { ⌜ (o ≤ 8) × (from ≤ 82) × (at + (2 * o + o * o) ≤ length (now out)) × (4 * (from + (2 * o + o * o)) ≤ length (now part)) ⌝ }
-    ensures { λ _. ⌜ ((pre d : List ℕ) → length pre ≡ at → now (out .entry) ≡ pre ++ drop at d
-        → now (out .exit) ≡ (pre ++ copiedHalf (λ x. x) first last o (fileWord (now (part .entry))) from) ++ drop (at + (2 * o + o * o)) d) ⌝ }
+    requires { ⌜ (o ≤ 8) × (from ≤ 82) × (at + halfSize o ≤ length (now out)) × (4 * (from + halfSize o) ≤ length (now part)) ⌝ }
+    ensures { λ _. ⌜ Appends at (halfSize o)
+        (copiedHalf (λ x. x) first last o (fileWord (now (part .entry))) from)
+        (now (out .entry)) (now (out .exit)) ⌝ }
 {
     let middle = from + o;
     let end = middle + o * o;
@@ -40,10 +41,10 @@ fn write_part(
     row: &[u32],
     from: usize,
 )
-    requires { ⌜ (o ≤ 8) × (at ≤ 82) × (from ≤ 81) × (4 * (at + (2 * o + o * o)) ≤ length (now out)) × (from + (2 * o + o * o) ≤ length (now row)) ⌝ }
+    requires { ⌜ (o ≤ 8) × (at ≤ 82) × (from ≤ 81) × (4 * (at + halfSize o) ≤ length (now out)) × (from + halfSize o ≤ length (now row)) ⌝ }
     ensures { λ _. ⌜ ((pre d : List ℕ) → length pre ≡ 4 * at → now (out .entry) ≡ pre ++ drop (4 * at) d
         → now (out .exit) ≡ (pre ++ bytesOf (copiedHalf (λ x. x) first last o (λ e. getD (now (row .entry)) e 0) from)) ++ drop
-        (4 * (at + (2 * o + o * o))) d) ⌝ }
+        (4 * (at + halfSize o)) d) ⌝ }
 {
     let middle = from + o;
     let end = middle + o * o;

@@ -1,12 +1,12 @@
 // The transpose of a table, row by row. Unused words become 0.
 ghost use mathlib.Core.Path.{_≡_};
-ghost use mathlib.Core.List.{List, _++_};
 ghost use Prim.Native.Nat.{ℕ, _+_, _*_, _<_, _≤_};
-ghost use lib.ListN.{length, getD, drop};
+ghost use lib.ListN.{length, getD};
+ghost use Rattle.lists.specs.Lists.{begun};
 ghost use Rattle.table.specs.Words.{table, width, firstBad};
 ghost use Rattle.table.specs.Results.{transposeW};
 ghost use Rattle.table.specs.Limits.{mostSize};
-ghost use Rattle.row_words.specs.Rows.{transposedHalf, transposedRow};
+ghost use Rattle.row_words.specs.Rows.{transposedHalf, transposedRow, Appends, halfSize};
 
 // The blocks p, a, q or g, b, h, of order o, at `from` of row, to `at` on: the last one first and each transposed.
 // Whether they are used: `first` for the first one written, `last` for the last one, both for the one between.
@@ -19,9 +19,10 @@ fn transpose_part(
     row: &[u32],
     from: usize,
 )
-    requires { ⌜ (o ≤ 8) × (from ≤ 81) × (at + (2 * o + o * o) ≤ length (now out)) × (from + (2 * o + o * o) ≤ length (now row)) ⌝ }
-    ensures { λ _. ⌜ ((pre d : List ℕ) → length pre ≡ at → now (out .entry) ≡ pre ++ drop at d
-        → now (out .exit) ≡ (pre ++ transposedHalf first last o (λ e. getD (now (row .entry)) e 0) from) ++ drop (at + (2 * o + o * o)) d) ⌝ }
+    requires { ⌜ (o ≤ 8) × (from ≤ 81) × (at + halfSize o ≤ length (now out)) × (from + halfSize o ≤ length (now row)) ⌝ }
+    ensures { λ _. ⌜ Appends at (halfSize o)
+        (transposedHalf first last o (λ e. getD (now (row .entry)) e 0) from)
+        (now (out .entry)) (now (out .exit)) ⌝ }
 {
     let middle = from + o;
     let end = middle + o * o;
@@ -48,7 +49,7 @@ fn transpose_row(n: usize, r: usize, s: usize, k: usize, row: &[u32], out: &mut 
 pub fn transpose(n: usize, r: usize, s: usize, t: &[u32], result: &mut [u32])
     requires { ⌜ (r ≤ 8) × (s ≤ 8) × (n ≤ mostSize) × (n * width r s ≤ length (now t)) × (n * width r s ≤ length (now result)) ⌝ }
     ensures { λ _. ⌜ ((p : ℕ) → 0 < p → firstBad p n (table r s (now (t .entry))) ≡ 0
-        → now (result .exit) ≡ transposeW p n (table r s (now (t .entry))) ++ drop (n * width r s) (now (result .entry))) ⌝ }
+        → now (result .exit) ≡ begun (n * width r s) (transposeW p n (table r s (now (t .entry)))) (now (result .entry))) ⌝ }
 {
     let w = check_numbers::row_width(r, s);
     let mut at = 0;

@@ -29,8 +29,15 @@ in-order : (c : tie.After-also3) → Checked (head (c .before .before .before .b
 in-order c =
     let prime = c .before .before .before .before .also .ensures [] refl (last (reply-is (c .before .before .before .before .before .before .accept .ensures))) in
     let size = c .before .before .also2 .ensures _ refl prime in
-    rw (c .before .before .before .before .before .bad-prime .ensures, c .before .before .before .bad-size .ensures, c .before .bad-order .ensures,
-        c .before .before .before .before .before .before .before .before .before .before .head-prime .ensures, c .before .before .before .before .before .before .before .before .before .word .ensures, c .before .before .before .before .before .before .before .before .word2 .ensures, c .before .before .before .before .before .before .before .word3 .ensures) at (c .also3 .ensures _ refl size)
+    rw (
+      c .before .before .before .before .before .bad-prime .ensures,
+      c .before .before .before .bad-size .ensures,
+      c .before .bad-order .ensures,
+      c .before .before .before .before .before .before .before .before .before .before .head-prime .ensures,
+      c .before .before .before .before .before .before .before .before .before .word .ensures,
+      c .before .before .before .before .before .before .before .before .word2 .ensures,
+      c .before .before .before .before .before .before .before .word3 .ensures,
+    ) at (c .also3 .ensures _ refl size)
 
 pub check-read-spec : {M : Type 1} → statement M
 check-read-spec =
