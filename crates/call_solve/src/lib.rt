@@ -49,7 +49,7 @@ pub fn inverse(p: u32, n: u32, r: u32, s: u32, table: &[u32], result: &mut [u32]
     let lower = r as usize;
     let upper = s as usize;
     let mut inverses = [0u32; 1024];
-    let zero = row_pivot::first_zero(m, size, lower, upper, table, &mut inverses);
+    let zero = sweep_pivot::first_zero(m, size, lower, upper, table, &mut inverses);
     if 0 < zero {
         return check_numbers::refuse(7, 1, zero as u32);
     }

@@ -48,7 +48,7 @@ fn show_table(p: u32, n: u32, r: u32, s: u32, table: &[u32])
     show(&line, head);
     show_rows(m, n as usize, r as usize, s as usize, table);
     let mut inverses = [0u32; 1024];
-    let zero = row_pivot::first_zero(m, n as usize, r as usize, s as usize, table, &mut inverses);
+    let zero = sweep_pivot::first_zero(m, n as usize, r as usize, s as usize, table, &mut inverses);
     let last = listing::last_line(&mut line, zero as u32);
     show(&line, last);
 }
