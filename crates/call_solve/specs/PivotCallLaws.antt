@@ -42,7 +42,8 @@ module _ {P N : ℕ} {A : Table} {cs : List Check} {y x : Reply} (c : PivotCall 
 
         pub zero-refused : {w : Reply} → 0 < row → w ≡ refuse 7 1 row → (w ≡ y) × (y .number ≢ 0)
         zero-refused {w} h q =
-            let z = first-pass cs x (c .answered) (c .refuses) ok (checkPivots P N A ∷ []) (accept 0) (here [] (accept 0) (row-found row (firstZero P N A) found h) (q ∙ ap (refuse 7 1) found)) ∙ sym (c .owed) in
+            let z = first-pass cs x (c .answered) (c .refuses) ok (checkPivots P N A ∷ []) (accept 0)
+            (here [] (accept 0) (row-found row (firstZero P N A) found h) (q ∙ ap (refuse 7 1) found)) ∙ sym (c .owed) in
             (z, λ n. seven (w .number) (ap (λ (y : Reply). y .number) q) (ap (λ (y : Reply). y .number) z ∙ n))
           where
             seven : (n : ℕ) → n ≡ 7 → n ≡ 0 → ⊥
@@ -50,18 +51,21 @@ module _ {P N : ℕ} {A : Table} {cs : List Check} {y x : Reply} (c : PivotCall 
 
         module _ (h : row ≤ 0) where
           pub none-answers : x ≡ y
-          none-answers = first-pass cs x (c .answered) (c .refuses) ok (checkPivots P N A ∷ []) (accept 0) (next _ [] (accept 0) (row-none row (firstZero P N A) found h) (last (first-accept cs x (c .answered) (c .refuses) ok))) ∙ sym (c .owed)
+          none-answers = first-pass cs x (c .answered) (c .refuses) ok (checkPivots P N A ∷ []) (accept 0)
+              (next _ [] (accept 0) (row-none row (firstZero P N A) found h) (last (first-accept cs x (c .answered) (c .refuses) ok))) ∙ sym (c .owed)
 
           pub none-accepts : Accepted y
           none-accepts = ap (λ (y : Reply). y .number) (sym none-answers) ∙ ok
 
 -- solve and inverse are such calls
 module _ (P N : ℕ) (A : Table) where
-  pub solve-call : (b v d : List ℕ) (x : Reply) → x ≡ answer (solveEarlier P N A b v d) (accept 0) → PivotCall P N A (solveEarlier P N A b v d) (solveReply P N A b v d) x
+  pub solve-call : (b v d : List ℕ) (x : Reply) → x ≡ answer (solveEarlier P N A b v d) (accept 0)
+      → PivotCall P N A (solveEarlier P N A b v d) (solveReply P N A b v d) x
   unfolding solveReply
   solve-call b v d x e = record { owed = refl; answered = e; refuses = refl; good = λ c. solve-passed P N A b v d c .0 }
 
-  pub inverse-call : (d : List ℕ) (x : Reply) → x ≡ answer (inverseEarlier P N A d) (accept 0) → PivotCall P N A (inverseEarlier P N A d) (inverseReply P N A d) x
+  pub inverse-call : (d : List ℕ) (x : Reply) → x ≡ answer (inverseEarlier P N A d) (accept 0)
+      → PivotCall P N A (inverseEarlier P N A d) (inverseReply P N A d) x
   unfolding inverseReply
   inverse-call d x e = record { owed = refl; answered = e; refuses = refl; good = λ c. inverse-passed P N A d c .0 }
 
@@ -83,5 +87,6 @@ module _ (N : ℕ) (A : Table) (d : List ℕ) where
   unfolding inverseW
   inverse-length P = length-table P N (A .lower) (A .upper) _ []
 
-  pub inverse-leaves : (m P : ℕ) → m ≡ P → {out : List ℕ} → out ≡ inverseW m N A ++ drop (tableLength N A) d → (y : Reply) → Accepted y → out ≡ after y (inverseW P N A) d
+  pub inverse-leaves : (m P : ℕ) → m ≡ P → {out : List ℕ} → out ≡ inverseW m N A ++ drop (tableLength N A) d
+      → (y : Reply) → Accepted y → out ≡ after y (inverseW P N A) d
   inverse-leaves m P e {out} f y ok = accepted-leaves y (inverseW P N A) d out _ ok (inverse-length P) (rw (← e) f)
