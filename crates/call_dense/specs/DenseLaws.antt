@@ -15,7 +15,7 @@ use Rattle.table.specs.Replies.{Reply, Check, check, accept, refuse, answer}
 use Rattle.table.specs.CallLaws.{number-is, other-number, refused-leaves, accepted-leaves}
 use Rattle.table.specs.Undertakings.{GoodTable}
 use Rattle.check_numbers.specs.Passed.{Good, good-of}
-use Rattle.check_table.specs.Ladder.{here, next, last, first-stop, first-clear, first-accept, first-pass}
+use Rattle.check_steps.specs.StepLaws.{here, next, last, first-stop, first-clear, first-accept, first-pass}
 use Rattle.table_dense.specs.DenseCall.{nonsingularW, denseW, denseEarlier, denseReply, denseAfter, squareAfter}
 use Rattle.table_dense.specs.DensePromises.{GoodSize, GoodSystem}
 use Rattle.table_dense.specs.DensePromisesProof.{earlier-good, promises}

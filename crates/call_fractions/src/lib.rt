@@ -4,11 +4,12 @@
 use check_numbers::Reply;
 use field_fractions::TwoPrimes;
 ghost use mathlib.Core.Bool.{_||_};
-ghost use mathlib.Core.List.{List, _++_};
+ghost use mathlib.Core.List.{List};
 ghost use mathlib.Core.Path.{_≡_};
 ghost use Prim.Native.Nat.{ℕ, _≤_};
 ghost use lib.IntN.{ℤ};
-ghost use lib.ListN.{length, drop};
+ghost use lib.ListN.{length};
+ghost use Rattle.lists.specs.Lists.{begun};
 ghost use Rattle.table.specs.Words.{firstBadPlace};
 ghost use Rattle.table.specs.Replies.{badPrime};
 ghost use Rattle.check_numbers.specs.Replied.{replied};
@@ -84,8 +85,8 @@ fn put_fractions(
     requires { ⌜ TwoReady k ⌝ }
     requires { ⌜ (n ≤ length (now x)) × (n ≤ length (now y)) × (firstBadPlace (k .p) n (now x) ≡ 0) × (firstBadPlace (k .modulus .p) n (now y) ≡ 0) ⌝ }
     requires { ⌜ (n ≤ length (now numerators)) × (n ≤ length (now denominators)) ⌝ }
-    ensures { λ _. ⌜ now (numerators .exit) ≡ numeratorsW (k .p) (k .modulus .p) n (now (x .entry)) (now (y .entry)) ++ drop n (now (numerators .entry)) ⌝ }
-    ensures { λ _. ⌜ now (denominators .exit) ≡ denominatorsW (k .p) (k .modulus .p) n (now (x .entry)) (now (y .entry)) ++ drop n (now (denominators .entry)) ⌝ }
+    ensures { λ _. ⌜ now (numerators .exit) ≡ begun n (numeratorsW (k .p) (k .modulus .p) n (now (x .entry)) (now (y .entry))) (now (numerators .entry)) ⌝ }
+    ensures { λ _. ⌜ now (denominators .exit) ≡ begun n (denominatorsW (k .p) (k .modulus .p) n (now (x .entry)) (now (y .entry))) (now (denominators .entry)) ⌝ }
 {
     let mut i = 0;
     while i < n {

@@ -15,7 +15,7 @@ use Rattle.table.specs.Results.{firstZero}
 use Rattle.table.specs.Replies.{Reply, Check, check, accept, refuse, answer}
 use Rattle.table.specs.CallLaws.{number-is, refused-leaves, accepted-leaves}
 use Rattle.check_numbers.specs.Passed.{Good, good-of}
-use Rattle.check_table.specs.Ladder.{here, next, last, first-stop, first-clear, first-pass}
+use Rattle.check_steps.specs.StepLaws.{here, next, last, first-stop, first-clear, first-pass}
 use Rattle.table_kernel.specs.KernelCall.{kernelW, kernelEarlier, kernelReply, kernelAfter}
 use Rattle.table_kernel.specs.KernelPromises.{GoodLoan}
 use Rattle.sweep_kernel.specs.KernelSweepLaws.{no-words}

@@ -23,7 +23,7 @@ use Rattle.table.specs.Replies.{Reply, NoFault, accept, answer}
 use Rattle.table.specs.CallLaws.{open-checks}
 use Rattle.check_numbers.specs.Passed.{Good, good-of}
 use Rattle.block.specs.Block.{Within}
-use Rattle.check_table.specs.Ladder.{first-stop, first-clear}
+use Rattle.check_steps.specs.StepLaws.{first-stop, first-clear}
 use Rattle.table_kernel.specs.KernelCall.{shows, showsChecks, showsReply}
 use Rattle.table_kernel.specs.KernelPromises.{GoodQuestion}
 use Rattle.table_kernel.specs.KernelPromisesProof.{clear-good}

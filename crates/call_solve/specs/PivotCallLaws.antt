@@ -14,7 +14,7 @@ use Rattle.table.specs.Replies.{Reply, Check, Accepted, NoFault, accept, refuse
 use Rattle.table.specs.Calls.{checkPivots, solveEarlier, solveReply, inverseEarlier, inverseReply, tableLength}
 use Rattle.check_numbers.specs.Passed.{Good, solve-passed, inverse-passed}
 use Rattle.block.specs.Block.{Within}
-use Rattle.check_table.specs.Ladder.{here, next, last, first-stop, first-clear, first-accept, first-pass, row-found, row-none}
+use Rattle.check_steps.specs.StepLaws.{here, next, last, first-stop, first-clear, first-accept, first-pass, row-found, row-none}
 use Rattle.sweep_solve.specs.SolveSweep.{work-length, solve-length}
 use Rattle.table.specs.CallLaws.{accepted-leaves}
 use Rattle.call_solve.specs.PivotCall.{PivotCall}

@@ -40,7 +40,7 @@ pub fn inverse(p: u32, n: u32, r: u32, s: u32, table: &[u32], result: &mut [u32]
     ensures { λ y. ⌜ replied y ≡ inverseReply p n (tab r s (now (table .entry))) (now (result .entry)) ⌝ }
     ensures { λ y. ⌜ now (result .exit) ≡ inverseAfter p n (tab r s (now (table .entry))) (now (result .entry)) ⌝ }
 {
-    let checked = check_table::check_transpose(p, n, r, s, table, result.len());
+    let checked = check_table::check_table(p, n, r, s, table, result.len());
     if checked.number != 0 {
         return checked;
     }

@@ -10,7 +10,7 @@ pub fn transpose(p: u32, n: u32, r: u32, s: u32, table: &[u32], result: &mut [u3
     ensures { λ y. ⌜ replied y ≡ transposeReply p n (tab r s (now (table .entry))) (now (result .entry)) ⌝ }
     ensures { λ y. ⌜ now (result .exit) ≡ transposeAfter p n (tab r s (now (table .entry))) (now (result .entry)) ⌝ }
 {
-    let y = check_table::check_transpose(p, n, r, s, table, result.len());
+    let y = check_table::check_table(p, n, r, s, table, result.len());
     if y.number != 0 {
         return y;
     }

@@ -19,12 +19,12 @@ use Rattle.call_solve.proofs.inverse.Statement.{statement}
 use Rattle.call_solve.proofs.inverse.Tie as tie
 
 -- the reply of the checks before the pivots
-checked : (c : tie.After-check-transpose) → let a = c .before .before .before .args in let A = table (a .r) (a .s) (now (a .table)) in let y = c .check-transpose .result in
+checked : (c : tie.After-check-table) → let a = c .before .before .before .args in let A = table (a .r) (a .s) (now (a .table)) in let y = c .check-table .result in
     PivotCall (a .p) (a .n) A (inverseEarlier (a .p) (a .n) A (now (a .result))) (inverseReply (a .p) (a .n) A (now (a .result))) (replied y)
-checked c = let a = c .before .before .before .args in inverse-call (a .p) (a .n) (table (a .r) (a .s) (now (a .table))) (now (a .result)) _ (c .check-transpose .ensures (now (a .result)) refl)
+checked c = let a = c .before .before .before .args in inverse-call (a .p) (a .n) (table (a .r) (a .s) (now (a .table))) (now (a .result)) _ (c .check-table .ensures (now (a .result)) refl)
 
 -- the result has room
-room : (c : tie.After-check-transpose) → c .check-transpose .result .number ≡ 0 → let a = c .before .before .before .args in tableLength (a .n) (table (a .r) (a .s) (now (a .table))) ≤ length (now (a .result))
+room : (c : tie.After-check-table) → c .check-table .result .number ≡ 0 → let a = c .before .before .before .args in tableLength (a .n) (table (a .r) (a .s) (now (a .table))) ≤ length (now (a .result))
 room c ok = let a = c .before .before .before .args in inverse-passed (a .p) (a .n) (table (a .r) (a .s) (now (a .table))) (now (a .result)) (early-clear (checked c) ok) .1
 
 pub inverse-spec : {M : Type 1} → statement M

@@ -17,10 +17,10 @@ use Rattle.call_transpose.proofs.transpose.Statement.{statement}
 use Rattle.call_transpose.proofs.transpose.Tie as tie
 
 -- the reply of the checks is the call's
-answered : (c : tie.After-check-transpose) → let a = c .before .before .before .args in
-    reply (c .check-transpose .result .number) (c .check-transpose .result .buffer) (c .check-transpose .result .row) (c .check-transpose .result .value) ≡ transposeReply (a .p) (a .n) (table (a .r) (a .s) (now (a .table))) (now (a .result))
+answered : (c : tie.After-check-table) → let a = c .before .before .before .args in
+    reply (c .check-table .result .number) (c .check-table .result .buffer) (c .check-table .result .row) (c .check-table .result .value) ≡ transposeReply (a .p) (a .n) (table (a .r) (a .s) (now (a .table))) (now (a .result))
 unfolding transposeReply
-answered c = c .check-transpose .ensures (now (c .before .before .before .args .result)) refl
+answered c = c .check-table .ensures (now (c .before .before .before .args .result)) refl
 
 refused : (c : tie.Then1) → let a = c .before .before .before .before .before .args in transposeReply (a .p) (a .n) (table (a .r) (a .s) (now (a .table))) (now (a .result)) .number ≢ 0
 refused c z = c .if1 .taken (ap (λ (y : Reply). y .number) (answered (c .before .before)) ∙ z)
