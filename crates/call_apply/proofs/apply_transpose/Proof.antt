@@ -77,7 +77,8 @@ up c = c .sweep-up .last .1 .1 .1 .1 .1 .1 .0
 upper-half : (c : tie.After-transposed) → let a = first (c .before .before .before) .args in c .transposed .result ≡ transposedHalf (upperHalf (a .r) (a .s))
 upper-half c = c .transposed .ensures ∙ ap transposedHalf (c .before .upper .ensures)
 
-lower-half : (c : tie.After-transposed2) → let a = first (new-of (c .before .before .before .before)) .args in c .transposed2 .result ≡ transposedHalf (lowerHalf (a .r))
+lower-half : (c : tie.After-transposed2) → let a = first (new-of (c .before .before .before .before)) .args in
+    c .transposed2 .result ≡ transposedHalf (lowerHalf (a .r))
 lower-half c = c .transposed2 .ensures ∙ ap transposedHalf (c .before .lower .ensures)
 
 -- what the sweep down leaves may be read
@@ -93,7 +94,8 @@ sent u =
     let m = new-of d in
     let w = d .before .before .before .before in
     let a = first m .args in
-    applied-transposed (m .new .result .p) (a .n) (a .r) (a .s) (now (a .table)) (now (a .column)) (now (a .result)) (down d) (up u) _ _ _ (w .row-width .ensures .0)
+    applied-transposed (m .new .result .p) (a .n) (a .r) (a .s) (now (a .table)) (now (a .column)) (now (a .result)) (down d) (up u) _ _ _
+    (w .row-width .ensures .0)
     (d .sweep-down .ensures) (u .sweep-up .ensures) (upper-half (d .before .before)) (lower-half (u .before .before))
 
 pub apply-transpose-spec : {M : Type 1} → statement M
