@@ -28,7 +28,8 @@ matrix-rows-spec =
     (λ c. search needs)
     (λ c. search needs)
     (λ c. omega (arith, part-room (c .before .loop .inv) (c .loop-test .taken)))
-    (λ c κs. let q = c .before .before .before .before .before .pre in let h = c .before .loop-test .taken in (q .0, q .1, h, lent-length _ _ _ _ (part-room (c .before .before .loop .inv) h .1) refl))
+    (λ c κs. let q = c .before .before .before .before .before .pre in let h = c .before .loop-test .taken in
+    (q .0, q .1, h, lent-length _ _ _ _ (part-room (c .before .before .loop .inv) h .1) refl))
     (λ c. omega arith)
     (λ c. omega arith)
     (λ c. written-more (c .before .before .before .before .before .loop .inv) (c .before .before .before .before .loop-test .taken) (λ k. length-tabulate _ _) (c .before .before .matrix-row .ensures))
