@@ -86,7 +86,8 @@ fn put_fractions(
     requires { ⌜ (n ≤ length (now x)) × (n ≤ length (now y)) × (firstBadPlace (k .p) n (now x) ≡ 0) × (firstBadPlace (k .modulus .p) n (now y) ≡ 0) ⌝ }
     requires { ⌜ (n ≤ length (now numerators)) × (n ≤ length (now denominators)) ⌝ }
     ensures { λ _. ⌜ now (numerators .exit) ≡ begun n (numeratorsW (k .p) (k .modulus .p) n (now (x .entry)) (now (y .entry))) (now (numerators .entry)) ⌝ }
-    ensures { λ _. ⌜ now (denominators .exit) ≡ begun n (denominatorsW (k .p) (k .modulus .p) n (now (x .entry)) (now (y .entry))) (now (denominators .entry)) ⌝ }
+    ensures { λ _. ⌜ now (denominators .exit) ≡ begun n (denominatorsW (k .p) (k .modulus .p) n (now (x .entry)) (now (y .entry)))
+        (now (denominators .entry)) ⌝ }
 {
     let mut i = 0;
     while i < n {
@@ -111,7 +112,8 @@ pub fn fractions(
 ) -> Reply
     ensures { λ a. ⌜ replied a ≡ fractionsReply p q n (now (x .entry)) (now (y .entry)) (now (numerators .entry)) (now (denominators .entry)) ⌝ }
     ensures { λ a. ⌜ now (numerators .exit) ≡ numeratorsAfter p q n (now (x .entry)) (now (y .entry)) (now (numerators .entry)) (now (denominators .entry)) ⌝ }
-    ensures { λ a. ⌜ now (denominators .exit) ≡ denominatorsAfter p q n (now (x .entry)) (now (y .entry)) (now (numerators .entry)) (now (denominators .entry)) ⌝ }
+    ensures { λ a. ⌜ now (denominators .exit) ≡ denominatorsAfter p q n (now (x .entry)) (now (y .entry)) (now (numerators .entry))
+        (now (denominators .entry)) ⌝ }
 {
     let a = check_fractions(p, q, n, x, y, numerators.len(), denominators.len());
     if a.number != 0 {
