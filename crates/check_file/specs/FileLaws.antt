@@ -25,8 +25,8 @@ pub records-few : (n w : ℕ) → n ≤ mostSize → w ≤ mostWidth → n * (1 
 records-few n w h l = mul-le-mul {n₁ = n} {m₁ = 1 + w} {n₂ = 1024} {m₂ = 162} h (omega arith)
 
 -- the head's numbers, once their checks pass
-pub headed : (f : List ℕ) (n r s : ℕ) → n ≡ headN f → r ≡ headR f → s ≡ headS f → badSize (standard .size) (headN f) ≡ false
-    → badOrder (standard .order) (headR f) (headS f) ≡ false → Headed f n r s
+pub headed : (f : List ℕ) (n r s : ℕ) → n ≡ headN f → r ≡ headR f → s ≡ headS f
+    → badSize (standard .size) (headN f) ≡ false → badOrder (standard .order) (headR f) (headS f) ≡ false → Headed f n r s
 headed f n r s en er es size orders = let o = order-within (headR f) (headS f) orders in record {
   size = sym en;
   lower = sym er;

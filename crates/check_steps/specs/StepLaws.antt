@@ -3,17 +3,15 @@ use mathlib.Core.Bool.{Bool, true, false}
 use mathlib.Core.Logic.{_≢_}
 use mathlib.Core.Path.{_≡_, refl, sym, ap, _∙_}
 use mathlib.Core.List.{List, [], _∷_, _++_}
-use Prim.Native.Nat.{ℕ, _*_, _<_, _≤_}
+use Prim.Native.Nat.{ℕ, _<_, _≤_}
 use native.Mathlib.Nat.{le-trans}
 use native.Mathlib.Omega.{arith}
 use lib.Dec.{ltb, leb}
-use lib.ListN.{length}
 use borrow.Author.Tests.{leb-true, lt-ltb, le-ltb}
 use Rattle.algebra.specs.Generators.{pick}
-use Rattle.table.specs.Limits.{standard, upTo, mostOrder, mostSize}
+use Rattle.table.specs.Limits.{standard, mostOrder, mostSize}
 use Rattle.table.specs.Words.{Table}
-use Rattle.table.specs.Replies.{Reply, Check, check, accept, answer, NoFault, badPrime, badSize, badOrder, short}
-use Rattle.table.specs.Calls.{sizeChecks}
+use Rattle.table.specs.Replies.{Reply, Check, check, accept, answer, NoFault, badSize, badOrder}
 use Rattle.check_steps.specs.Checked.{Sized}
 use Rattle.table.specs.CallLaws.{refusing, passed, open-checks, refused-by, given, answer-append, both-hold}
 
@@ -30,10 +28,6 @@ pub last : {v w : Reply} → w ≡ v → w ≡ answer [] v
 unfolding answer
 last q = q
 
--- the first checks pass, and the others decide
-pub clear-pass : (cs ds : List Check) (v : Reply) {w : Reply} → NoFault cs → w ≡ answer ds v → w ≡ answer (cs ++ ds) v
-clear-pass cs ds v z q = q ∙ sym (answer-append cs ds v ∙ open-checks cs (answer ds v) z)
-
 -- y is the answer of a call's first checks: it refuses, whatever comes after them; or they pass, and the others decide
 module _ (cs : List Check) (y : Reply) (e : y ≡ answer cs (accept 0)) where
   pub first-stop : y .number ≢ 0 → (ds : List Check) (v : Reply) → y ≡ answer (cs ++ ds) v
@@ -49,7 +43,7 @@ module _ (cs : List Check) (y : Reply) (e : y ≡ answer cs (accept 0)) where
     first-accept = e ∙ open-checks cs (accept 0) first-clear
 
     pub first-pass : (ds : List Check) (v : Reply) {w : Reply} → w ≡ answer ds v → w ≡ answer (cs ++ ds) v
-    first-pass ds v = clear-pass cs ds v first-clear
+    first-pass ds v q = q ∙ sym (answer-append cs ds v ∙ open-checks cs (answer ds v) first-clear)
 
 -- y answers the checks cs, and there is one check more: y is handed on, the check gives its refusal, or it finds nothing
 module _ (c : Check) (y : Reply) (cs : List Check) (r : refusing cs ≡ true) (e : y ≡ answer cs (accept 0)) where

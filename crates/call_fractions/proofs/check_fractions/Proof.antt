@@ -21,12 +21,16 @@ abbrev early : tie.Start → List Check
 early s = let a = s .args in first s ++ (checkShort 1 (a .x .now) (a .n) ∷ checkShort 2 (a .y .now) (a .n)
     ∷ check (ltb (a .numerators) (a .n)) (refuse 4 4 0) ∷ check (ltb (a .denominators) (a .n)) (refuse 4 5 0) ∷ [])
 
-numbers : (c : tie.After-also3) → Checked (first (c .before .before .before .before .before .before .before .before)) (c .also3 .result)
+abbrev start : tie.After-also3 → tie.Start
+start c = c .before .before .before .before .before .before .before .before
+
+numbers : (c : tie.After-also3) → Checked (first (start c)) (c .also3 .result)
 numbers c =
     let primes = c .before .before .before .also .ensures [] refl (last (reply-is (c .before .before .before .before .before .accept .ensures))) in
-    rw (c .before .before .before .before .bad-primes .ensures, c .before .bad-size .ensures) at (c .also3 .ensures _ refl (c .before .before .also2 .ensures _ refl primes))
+    let all = c .also3 .ensures _ refl (c .before .before .also2 .ensures _ refl primes) in
+    rw (c .before .before .before .before .bad-primes .ensures, c .before .bad-size .ensures) at all
 
-lengths : (c : tie.After-also-short4) → Checked (early (c .before .before .before .before .before .before .before .before .before .before .before .before)) (c .also-short4 .result)
+lengths : (c : tie.After-also-short4) → Checked (early (start (c .before .before .before .before))) (c .also-short4 .result)
 lengths c =
     let columns = c .before .before .also-short2 .ensures _ refl (c .before .before .before .also-short .ensures _ refl (numbers (c .before .before .before .before))) in
     c .also-short4 .ensures _ refl (c .before .also-short3 .ensures _ refl columns)

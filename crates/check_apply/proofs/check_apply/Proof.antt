@@ -4,13 +4,11 @@ use borrow.Author.Tests.{ltb-false}
 use mathlib.Core.List.{List, [], _∷_}
 use mathlib.Core.Path.{refl}
 use native.Mathlib.Omega.{arith}
-use Prim.Native.Nat.{_*_}
 use lib.Dec.{ltb}
-use lib.ListN.{length}
 use Rattle.table.specs.Limits.{standard, mostSize}
-use Rattle.table.specs.Words.{Table, table, width}
+use Rattle.table.specs.Words.{Table, table}
 use Rattle.table.specs.Replies.{Check, check, refuse}
-use Rattle.table.specs.Calls.{sizeChecks}
+use Rattle.table.specs.Calls.{sizeChecks, checkShort, tableLength}
 use Rattle.check_steps.specs.Checked.{Checked}
 use Rattle.check_steps.specs.StepLaws.{first-clear, sized}
 use Rattle.check_apply.proofs.check_apply.Statement.{statement}
@@ -23,8 +21,8 @@ module _ (s : tie.Start) where
   -- the checks of the numbers and of the lengths
   abbrev early : List Check
   early = let a = s .args in sizeChecks (a .p) (a .n) standard A (
-      check (ltb (length (a .t .now)) (a .n * width (a .r) (a .s))) (refuse 4 1 0)
-      ∷ check (ltb (length (a .x .now)) (a .n)) (refuse 4 3 0)
+      checkShort 1 (A .words) (tableLength (a .n) A)
+      ∷ checkShort 3 (a .x .now) (a .n)
       ∷ check (ltb (a .room) (a .n)) (refuse 4 5 0) ∷ [])
 
 lengths : (c : tie.After-also-short2) → Checked (early (c .before .before .before .before .before .before)) (c .also-short2 .result)

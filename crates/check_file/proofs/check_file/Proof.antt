@@ -30,20 +30,31 @@ module _ (s : tie.Start) where
   abbrev others : List Check
   others = checkRow (firstBroken file) (λ k. refuse 10 6 (k - 1)) ∷ checkRow (firstBadInFile file) (refuse 5 6) ∷ []
 
+-- the start, from the lengths, the search of the chain and that of the words
+abbrev start : tie.Else1 → tie.Start
+start c = c .before .before .before .before .before .before .before
+
+abbrev unbroken : tie.After-first-broken → tie.Else1
+unbroken c = c .before
+
+abbrev chained : tie.After-first-bad → tie.After-first-broken
+chained c = c .before .before
+
 long : (c : tie.After-also-short) → Checked (lengths (c .before .before .before .before .before)) (c .also-short .result)
 long c =
     let s = c .before .before .before .before .before in
     let q = c .before .before .before .row-width .ensures .0 in
     let bytes = c .before .also .ensures [] refl (last (reply-is (c .before .before .accept .ensures))) in
-    rw (bytes-are (file s) _ _ _ (s .pre .0) _ q, words-are (file s) _ _ _ (s .pre .0) _ q) at (c .also-short .ensures _ refl bytes)
+    let h = s .pre .0 in
+    rw (bytes-are (file s) _ _ _ h _ q, words-are (file s) _ _ _ h _ q) at (c .also-short .ensures _ refl bytes)
 
 -- once the lengths are right, the others decide
-decide : (c : tie.Else1) (d : List ℕ) → length d ≡ c .before .before .before .before .before .before .before .args .room → {w : Reply} → let f = file (c .before .before .before .before .before .before .before) in
-    w ≡ answer (others (c .before .before .before .before .before .before .before)) (accept (headP f)) → w ≡ answer (fileChecks f d) (accept (headP f))
+decide : (c : tie.Else1) (d : List ℕ) → length d ≡ start c .args .room → {w : Reply} → let f = file (start c) in
+    w ≡ answer (others (start c)) (accept (headP f)) → w ≡ answer (fileChecks f d) (accept (headP f))
 decide c d l q = rw l (first-pass _ _ (long (c .before .before)) refl (c .if1 .left) _ _ q)
 
-bytes : (c : tie.Else1) → let a = c .before .before .before .before .before .before .before .args in length (file (c .before .before .before .before .before .before .before)) ≡ fileBytes (a .n) (a .r) (a .s)
-bytes c = length-is _ _ _ _ (c .before .before .before .before .before .before .before .pre .0) (first-clear _ _ (long (c .before .before)) refl (c .if1 .left) 0)
+bytes : (c : tie.Else1) → let a = start c .args in length (file (start c)) ≡ fileBytes (a .n) (a .r) (a .s)
+bytes c = length-is _ _ _ _ (start c .pre .0) (first-clear _ _ (long (c .before .before)) refl (c .if1 .left) 0)
 
 records : (c : tie.After-row-width) → let n = c .before .before .args .n in n * (1 + c .row-width .result) ≤ 165888
 records c = records-few (c .before .before .args .n) _ (c .before .before .pre .0 .most) (c .row-width .ensures .1)
@@ -62,19 +73,23 @@ check-file-spec =
     (λ c. let s = c .before .before .before .before in omega (arith, rows-few (s .args .n) _ (s .pre .0 .most) (c .before .before .row-width .ensures .1)))
     (λ c κs. search needs)
     (λ c d l. rw l (first-stop (lengths (c .before .before .before .before .before .before .before)) _ (long (c .before .before)) (c .if1 .taken) _ _))
-    (λ c κs. (c .before .before .before .before .before .before .before .pre .0, bytes c))
+    (λ c κs. (start c .pre .0, bytes c))
     (λ c. search needs)
-    (λ c. omega (arith, c .before .first-broken .ensures .1, c .before .before .before .before .before .before .before .before .before .pre .0 .most))
+    (λ c. omega (arith, c .before .first-broken .ensures .1, start (unbroken (c .before)) .pre .0 .most))
     (λ c κs. search needs)
-    (λ c d l. let e = c .before .before .first-broken .ensures .0 in
-    decide (c .before .before .before) d l (here _ _ (row-found _ _ e (c .before .if2 .taken)) (reply-is (c .refuse .ensures) ∙ ap (λ (m : ℕ). reply 10 6 (m - 1) 0) e)))
-    (λ c κs. (c .before .before .before .before .before .before .before .before .before .pre .0, bytes (c .before .before), c .before .before .before .before .before .before .before .before .before .pre .1, sym (c .before .first-broken .ensures .0) ∙ omega (arith, c .if2 .left)))
-    (λ c. omega (arith, c .before .first-bad .ensures .1, c .before .before .before .before .before .before .before .before .before .before .before .pre .0 .most))
+    (λ c d l. let k = c .before .before in let e = k .first-broken .ensures .0 in
+    let q = reply-is (c .refuse .ensures) ∙ ap (λ (m : ℕ). reply 10 6 (m - 1) 0) e in
+    decide (unbroken k) d l (here _ _ (row-found _ _ e (c .before .if2 .taken)) q))
+    (λ c κs. let k = unbroken (c .before) in let none = sym (c .before .first-broken .ensures .0) ∙ omega (arith, c .if2 .left) in
+    (start k .pre .0, bytes k, start k .pre .1, none))
+    (λ c. omega (arith, c .before .first-bad .ensures .1, start (unbroken (chained (c .before))) .pre .0 .most))
     (λ c κs. search needs)
-    (λ c d l. let e = c .before .before .first-bad .ensures .0 in
-    decide (c .before .before .before .before .before) d l (next _ _ _ (row-none _ _ (c .before .before .before .before .first-broken .ensures .0) (c .before .before .before .if2 .left))
-    (here _ _ (row-found _ _ e (c .before .if3 .taken)) (reply-is (c .refuse2 .ensures) ∙ ap (λ (m : ℕ). reply 5 6 m 0) e))))
+    (λ c d l. let k = c .before .before in let m = chained k in let e = k .first-bad .ensures .0 in
+    let q = reply-is (c .refuse2 .ensures) ∙ ap (λ (m : ℕ). reply 5 6 m 0) e in
+    decide (unbroken m) d l (next _ _ _ (row-none _ _ (m .first-broken .ensures .0) (k .before .if2 .left))
+    (here _ _ (row-found _ _ e (c .before .if3 .taken)) q)))
     (λ c κs. search needs)
-    (λ c d l. decide (c .before .before .before .before .before) d l (next _ _ _ (row-none _ _ (c .before .before .before .before .first-broken .ensures .0) (c .before .before .before .if2 .left))
-    (next _ _ _ (row-none _ _ (c .before .before .first-bad .ensures .0) (c .before .if3 .left))
-    (last (reply-is (c .accept2 .ensures) ∙ ap accept (sym (c .before .before .before .before .before .before .before .before .before .before .before .before .pre .1))))))))
+    (λ c d l. let k = c .before .before in let m = chained k in
+    decide (unbroken m) d l (next _ _ _ (row-none _ _ (m .first-broken .ensures .0) (k .before .if2 .left))
+    (next _ _ _ (row-none _ _ (k .first-bad .ensures .0) (c .before .if3 .left))
+    (last (reply-is (c .accept2 .ensures) ∙ ap accept (sym (start (unbroken m) .pre .1))))))))

@@ -25,7 +25,14 @@ module _ (s : tie.Start) where
       ∷ check (badSize (standard .size) (headN file)) (refuse 2 0 0)
       ∷ check (badOrder (standard .order) (headR file) (headS file)) (refuse 3 6 0) ∷ []
 
-in-order : (c : tie.After-also3) → Checked (head (c .before .before .before .before .before .before .before .before .before .before .before .before .before)) (c .also3 .result)
+-- the head's words have been read
+abbrev read : tie.After-also3 → tie.After-word3
+read c = c .before .before .before .before .before .before .before
+
+abbrev start : tie.After-word3 → tie.Start
+start c = c .before .before .before .before .before .before
+
+in-order : (c : tie.After-also3) → Checked (head (start (read c))) (c .also3 .result)
 in-order c =
     let prime = c .before .before .before .before .also .ensures [] refl (last (reply-is (c .before .before .before .before .before .before .accept .ensures))) in
     let size = c .before .before .also2 .ensures _ refl prime in
@@ -56,11 +63,14 @@ check-read-spec =
     (λ c κs. search needs)
     (λ c κs. search needs)
     (λ c κs. search needs)
-    (λ c d l. next _ _ _ (le-ltb _ _ (c .before .before .before .before .before .before .before .before .before .before .before .before .before .if1 .left)) (first-stop (head (c .before .before .before .before .before .before .before .before .before .before .before .before .before .before .before)) _ (in-order (c .before .before)) (c .if2 .taken) _ _))
+    (λ c d l. let w = read (c .before .before) in
+    next _ _ _ (le-ltb _ _ (w .before .before .before .before .if1 .left)) (first-stop (head (start w)) _ (in-order (c .before .before)) (c .if2 .taken) _ _))
     (λ c. search needs)
     (λ c. search needs)
     (λ c. search needs)
     (λ c κs. let z = first-clear _ _ (in-order (c .before .before)) refl (c .if2 .left) in
-    (headed (file (c .before .before .before .before .before .before .before .before .before .before .before .before .before .before .before)) _ _ _ (c .before .before .before .before .before .before .before .before .before .before .before .word .ensures) (c .before .before .before .before .before .before .before .before .before .before .word2 .ensures) (c .before .before .before .before .before .before .before .before .before .word3 .ensures) (z 1) (z 2), sym (c .before .before .before .before .before .before .before .before .before .before .before .before .head-prime .ensures)))
-    (λ c d l. next _ _ _ (le-ltb _ _ (c .before .before .before .before .before .before .before .before .before .before .before .before .before .before .if1 .left))
+    let w = read (c .before .before) in
+    let numbers = headed (file (start w)) _ _ _ (w .before .before .word .ensures) (w .before .word2 .ensures) (w .word3 .ensures) (z 1) (z 2) in
+    (numbers, sym (w .before .before .before .head-prime .ensures)))
+    (λ c d l. next _ _ _ (le-ltb _ _ (read (c .before .before .before) .before .before .before .before .if1 .left))
     (first-pass _ _ (in-order (c .before .before .before)) refl (c .before .if2 .left) _ _ (c .check-file .ensures d l))))

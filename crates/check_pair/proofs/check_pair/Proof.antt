@@ -37,21 +37,31 @@ module _ (s : tie.Start) where
   lengths = let n = s .args .n in added (checkShort 1 (A .words) (tableLength n A) ∷ checkShort 2 (B .words) (tableLength n B)
       ∷ check (ltb (s .args .room) (tableLength n AB)) (refuse 4 5 0) ∷ [])
 
-in-order : (c : tie.After-also) → Checked (orders (c .before .before .before .before .before) []) (c .also .result)
-in-order c = rw (c .before .bad-order .ensures) at (c .also .ensures _ refl (c .before .before .numbers .ensures (c .before .before .before .before .before .args .t1 .now)))
+-- the start, from the orders, the orders added and the lengths
+abbrev start-1 : tie.After-also → tie.Start
+start-1 c = c .before .before .before .before .before
 
-both-in-order : (c : tie.After-also2) → Checked (added (c .before .before .before .before .before .before .before .before .before) []) (c .also2 .result)
+abbrev start-2 : tie.After-also2 → tie.Start
+start-2 c = start-1 (c .before .before .before .before)
+
+abbrev start-3 : tie.After-also-short-table3 → tie.Start
+start-3 c = start-2 (c .before .before .before)
+
+in-order : (c : tie.After-also) → Checked (orders (start-1 c) []) (c .also .result)
+in-order c = rw (c .before .bad-order .ensures) at (c .also .ensures _ refl (c .before .before .numbers .ensures (start-1 c .args .t1 .now)))
+
+both-in-order : (c : tie.After-also2) → Checked (added (start-2 c) []) (c .also2 .result)
 both-in-order c = rw (c .before .bad-order2 .ensures) at (c .also2 .ensures _ refl (in-order (c .before .before .before .before)))
 
-long : (c : tie.After-also-short-table3) → Checked (lengths (c .before .before .before .before .before .before .before .before .before .before .before .before)) (c .also-short-table3 .result)
+long : (c : tie.After-also-short-table3) → Checked (lengths (start-3 c)) (c .also-short-table3 .result)
 long c =
     let tables = c .before .also-short-table2 .ensures _ refl (c .before .before .also-short-table .ensures _ refl (both-in-order (c .before .before .before))) in
     c .also-short-table3 .ensures _ refl tables
 
 -- orders within the limits are small
-small : (c : tie.Else1) → let a = c .before .before .before .before .before .before .before .args in (a .r1 + a .r2 ≤ 16) × (a .s1 + a .s2 ≤ 16)
+small : (c : tie.Else1) → let a = start-1 (c .before .before) .args in (a .r1 + a .r2 ≤ 16) × (a .s1 + a .s2 ≤ 16)
 small c =
-    let a = c .before .before .before .before .before .before .before .args in
+    let a = start-1 (c .before .before) .args in
     let z = first-clear _ _ (in-order (c .before .before)) refl (c .if1 .left) in
     let first = order-within (a .r1) (a .s1) (z 2) in
     let second = order-within (a .r2) (a .s2) (z 3) in
@@ -64,18 +74,19 @@ check-pair-spec =
     (λ c κs. search needs)
     (λ c κs. search needs)
     (λ c κs. search needs)
-    (λ c d l. first-stop (orders (c .before .before .before .before .before .before .before) []) _ (in-order (c .before .before)) (c .if1 .taken) _ (accept 0))
+    (λ c d l. first-stop (orders (start-1 (c .before .before)) []) _ (in-order (c .before .before)) (c .if1 .taken) _ (accept 0))
     (λ c. omega (arith, small c .0))
     (λ c. omega (arith, small c .1))
     (λ c κs. search needs)
     (λ c κs. search needs)
-    (λ c κs ok. let z = first-clear _ _ (both-in-order c) refl ok in sized mostSize _ (A (c .before .before .before .before .before .before .before .before .before)) (omega arith) (z 1) (z 2))
+    (λ c κs ok. let z = first-clear _ _ (both-in-order c) refl ok in sized mostSize _ (A (start-2 c)) (omega arith) (z 1) (z 2))
     (λ c κs ok. let z = first-clear _ _ (c .also-short-table .ensures _ refl (both-in-order (c .before))) refl ok in
-    sized mostSize _ (B (c .before .before .before .before .before .before .before .before .before .before)) (omega arith) (z 1) (z 3))
+    sized mostSize _ (B (start-2 (c .before))) (omega arith) (z 1) (z 3))
     (λ c κs ok. let first = c .before .also-short-table .ensures _ refl (both-in-order (c .before .before)) in
-    let z = first-clear _ _ (c .also-short-table2 .ensures _ refl first) refl ok in sized mostSize _ (AB (c .before .before .before .before .before .before .before .before .before .before .before)) (omega arith) (z 1) (z 4))
+    let z = first-clear _ _ (c .also-short-table2 .ensures _ refl first) refl ok in
+    sized mostSize _ (AB (start-2 (c .before .before))) (omega arith) (z 1) (z 4))
     (λ c κs ok. let z = first-clear _ _ (long c) refl ok in
-    (sized mostSize _ (A (c .before .before .before .before .before .before .before .before .before .before .before .before)) (omega arith) (z 1) (z 2), ltb-false _ _ (z 5)))
+    (sized mostSize _ (A (start-3 c)) (omega arith) (z 1) (z 2), ltb-false _ _ (z 5)))
     (λ c κs ok. let z = first-clear _ _ (c .also-words .ensures _ refl (long (c .before))) refl ok in
-    (sized mostSize _ (B (c .before .before .before .before .before .before .before .before .before .before .before .before .before)) (omega arith) (z 1) (z 3), ltb-false _ _ (z 6)))
+    (sized mostSize _ (B (start-3 (c .before))) (omega arith) (z 1) (z 3), ltb-false _ _ (z 6)))
     (λ c d l. rw l (c .also-words2 .ensures _ refl (c .before .also-words .ensures _ refl (long (c .before .before))))))

@@ -1,7 +1,6 @@
 -- `check_steps::also_row` meets its contract.
 use borrow.Author.Needs.{needs}
 use borrow.Author.Tests.{lt-ltb, le-ltb}
-use native.Mathlib.Omega.{arith}
 use Rattle.check_numbers.specs.CheckLaws.{reply-is}
 use Rattle.check_steps.specs.StepLaws.{handed-on, found, not-found}
 use Rattle.check_steps.proofs.also_row.Statement.{statement}

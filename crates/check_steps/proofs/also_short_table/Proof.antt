@@ -13,7 +13,7 @@ also-short-table-spec =
     (tie.spec
     (λ c cs r e. handed-on _ _ cs r e (c .if1 .taken))
     (λ c κs. let z = c .before .before .pre (c .if1 .left) in (z .1, z .2))
-    (λ c. let z = c .before .before .before .pre (c .before .if1 .left) in
-    omega (arith, mul-le-mul {n₁ = c .before .before .before .args .n} {m₁ = c .row-width .result} {n₂ = mostSize} {m₂ = mostWidth} (z .0) (c .row-width .ensures .1)))
+    (λ c. let s = c .before .before .before in let z = s .pre (c .before .if1 .left) in
+    omega (arith, mul-le-mul {n₁ = s .args .n} {m₁ = c .row-width .result} {n₂ = mostSize} {m₂ = mostWidth} (z .0) (c .row-width .ensures .1)))
     (λ c κs. search needs)
     (λ c cs r e. rw (c .before .row-width .ensures .0) at (c .also-short .ensures cs r e)))

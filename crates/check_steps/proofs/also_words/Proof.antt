@@ -1,5 +1,4 @@
 -- `check_steps::also_words` meets its contract.
-use borrow.Author.Needs.{needs}
 use native.Mathlib.Omega.{arith}
 use Rattle.check_steps.specs.StepLaws.{handed-on}
 use Rattle.check_steps.proofs.also_words.Statement.{statement}

@@ -3,13 +3,11 @@ use borrow.Author.Needs.{needs}
 use borrow.Author.Tests.{ltb-false}
 use mathlib.Core.List.{List, [], _∷_}
 use mathlib.Core.Path.{refl}
-use Prim.Native.Nat.{_*_}
 use lib.Dec.{ltb}
-use lib.ListN.{length}
 use Rattle.table.specs.Limits.{upTo}
-use Rattle.table.specs.Words.{Table, table, width}
+use Rattle.table.specs.Words.{Table, table}
 use Rattle.table.specs.Replies.{Check, check, refuse}
-use Rattle.table.specs.Calls.{sizeChecks}
+use Rattle.table.specs.Calls.{sizeChecks, checkShort, tableLength}
 use Rattle.check_steps.specs.Checked.{Checked}
 use Rattle.check_steps.specs.StepLaws.{first-clear, sized}
 use Rattle.check_table.proofs.check_system.Statement.{statement}
@@ -22,14 +20,15 @@ module _ (s : tie.Start) where
   -- the checks of the numbers and of the lengths
   abbrev early : List Check
   early = let a = s .args in sizeChecks (a .p) (a .n) (upTo (a .most)) A (
-      check (ltb (length (a .t .now)) (a .n * width (a .r) (a .s))) (refuse 4 1 0)
-      ∷ check (ltb (length (a .x .now)) (a .n)) (refuse 4 3 0)
+      checkShort 1 (A .words) (tableLength (a .n) A)
+      ∷ checkShort 3 (a .x .now) (a .n)
       ∷ check (ltb (a .work) (a .need)) (refuse 4 4 0)
       ∷ check (ltb (a .room) (a .n)) (refuse 4 5 0) ∷ [])
 
 lengths : (c : tie.After-also-short3) → Checked (early (c .before .before .before .before .before .before .before)) (c .also-short3 .result)
 lengths c =
-    let table = c .before .before .before .also-short-table .ensures _ refl (c .before .before .before .before .numbers-up-to .ensures (c .before .before .before .before .before .before .before .args .t .now)) in
+    let numbers = c .before .before .before .before .numbers-up-to .ensures (c .before .before .before .before .before .before .before .args .t .now) in
+    let table = c .before .before .before .also-short-table .ensures _ refl numbers in
     c .also-short3 .ensures _ refl (c .before .also-short2 .ensures _ refl (c .before .before .also-short .ensures _ refl table))
 
 pub check-system-spec : {M : Type 1} → statement M

@@ -4,13 +4,10 @@ use borrow.Author.Tests.{ltb-false}
 use mathlib.Core.List.{List, [], _∷_}
 use mathlib.Core.Path.{refl}
 use native.Mathlib.Omega.{arith}
-use Prim.Native.Nat.{_*_}
-use lib.Dec.{ltb}
-use lib.ListN.{length}
 use Rattle.table.specs.Limits.{standard, mostSize}
-use Rattle.table.specs.Words.{Table, table, width}
-use Rattle.table.specs.Replies.{Check, check, refuse}
-use Rattle.table.specs.Calls.{sizeChecks}
+use Rattle.table.specs.Words.{Table, table}
+use Rattle.table.specs.Replies.{Check}
+use Rattle.table.specs.Calls.{sizeChecks, checkShort, tableLength}
 use Rattle.check_steps.specs.Checked.{Checked}
 use Rattle.check_steps.specs.StepLaws.{first-clear, sized}
 use Rattle.check_table.proofs.check_table.Statement.{statement}
@@ -22,7 +19,7 @@ module _ (s : tie.Start) where
 
   -- the checks of the numbers and of the table's length
   abbrev early : List Check
-  early = let a = s .args in sizeChecks (a .p) (a .n) standard A (check (ltb (length (a .t .now)) (a .n * width (a .r) (a .s))) (refuse 4 1 0) ∷ [])
+  early = let a = s .args in sizeChecks (a .p) (a .n) standard A (checkShort 1 (A .words) (tableLength (a .n) A) ∷ [])
 
 long : (c : tie.After-also-short-table) → Checked (early (c .before .before .before)) (c .also-short-table .result)
 long c = c .also-short-table .ensures _ refl (c .before .numbers .ensures (c .before .before .before .args .t .now))
