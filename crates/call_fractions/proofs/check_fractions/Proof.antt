@@ -32,7 +32,8 @@ numbers c =
 
 lengths : (c : tie.After-also-short4) → Checked (early (start (c .before .before .before .before))) (c .also-short4 .result)
 lengths c =
-    let columns = c .before .before .also-short2 .ensures _ refl (c .before .before .before .also-short .ensures _ refl (numbers (c .before .before .before .before))) in
+    let column = c .before .before .before .also-short .ensures _ refl (numbers (c .before .before .before .before)) in
+    let columns = c .before .before .also-short2 .ensures _ refl column in
     c .also-short4 .ensures _ refl (c .before .also-short3 .ensures _ refl columns)
 
 pub check-fractions-spec : {M : Type 1} → statement M

@@ -23,7 +23,9 @@ module _ (s : tie.Start) where
   first = let a = s .args in sizeChecks (a .p) (a .n) standard A (check (badPlace (a .n) (a .i) || badPlace (a .n) (a .j)) (refuse 8 0 0) ∷ [])
 
 places : (c : tie.After-also) → Checked (first (c .before .before .before .before)) (c .also .result)
-places c = let numbers = c .before .before .numbers .ensures (c .before .before .before .before .args .t .now) in rw (c .before .bad-places .ensures) at (c .also .ensures _ refl numbers)
+places c =
+    let numbers = c .before .before .numbers .ensures (c .before .before .before .before .args .t .now) in
+    rw (c .before .bad-places .ensures) at (c .also .ensures _ refl numbers)
 
 pub check-entry-spec : {M : Type 1} → statement M
 check-entry-spec =

@@ -34,7 +34,8 @@ start c = c .before .before .before .before .before .before
 
 in-order : (c : tie.After-also3) → Checked (head (start (read c))) (c .also3 .result)
 in-order c =
-    let prime = c .before .before .before .before .also .ensures [] refl (last (reply-is (c .before .before .before .before .before .before .accept .ensures))) in
+    let none = last (reply-is (c .before .before .before .before .before .before .accept .ensures)) in
+    let prime = c .before .before .before .before .also .ensures [] refl none in
     let size = c .before .before .also2 .ensures _ refl prime in
     rw (
       c .before .before .before .before .before .bad-prime .ensures,

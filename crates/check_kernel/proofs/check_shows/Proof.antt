@@ -25,7 +25,9 @@ module _ (s : tie.Start) where
   early = let a = s .args in first (checkShort 1 (A .words) (tableLength (a .n) A) ∷ checkShort 3 (a .x .now) (a .n) ∷ [])
 
 place : (c : tie.After-also) → Checked (first (c .before .before .before .before .before) []) (c .also .result)
-place c = let numbers = c .before .before .numbers .ensures (c .before .before .before .before .before .args .t .now) in rw (c .before .bad-place .ensures) at (c .also .ensures _ refl numbers)
+place c =
+    let numbers = c .before .before .numbers .ensures (c .before .before .before .before .before .args .t .now) in
+    rw (c .before .bad-place .ensures) at (c .also .ensures _ refl numbers)
 
 lengths : (c : tie.After-also-short) → Checked (early (c .before .before .before .before .before .before .before)) (c .also-short .result)
 lengths c = c .also-short .ensures _ refl (c .before .also-short-table .ensures _ refl (place (c .before .before)))

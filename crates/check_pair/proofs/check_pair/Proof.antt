@@ -55,7 +55,8 @@ both-in-order c = rw (c .before .bad-order2 .ensures) at (c .also2 .ensures _ re
 
 long : (c : tie.After-also-short-table3) → Checked (lengths (start-3 c)) (c .also-short-table3 .result)
 long c =
-    let tables = c .before .also-short-table2 .ensures _ refl (c .before .before .also-short-table .ensures _ refl (both-in-order (c .before .before .before))) in
+    let first = c .before .before .also-short-table .ensures _ refl (both-in-order (c .before .before .before)) in
+    let tables = c .before .also-short-table2 .ensures _ refl first in
     c .also-short-table3 .ensures _ refl tables
 
 -- orders within the limits are small
