@@ -24,13 +24,9 @@ fn solve_words(
     square: &mut [u32],
     result: &mut [u32],
 ) -> bool
-    requires { ⌜ Ready m
-        × Good (m .p) n (tab r s (now table))
-        × (n ≤ 256)
-        × (n ≤ length (now column))
+    requires { ⌜ Ready m × Good (m .p) n (tab r s (now table)) × (n ≤ 256) × (n ≤ length (now column))
         × ((k : ℕ) → k < n → getD (now column) k 0 < m .p)
-        × (n * n ≤ length (now square))
-        × (n ≤ length (now result)) ⌝ }
+        × (n * n ≤ length (now square)) × (n ≤ length (now result)) ⌝ }
     ensures { λ found. ⌜ found ≡ nonsingularW (m .p) n (tab r s (now (table .entry))) ⌝ }
     ensures { λ _. ⌜ now (square .exit) ≡ begun (n * n) (tabulate (n * n) (λ e. 0)) (now (square .entry)) ⌝ }
     ensures { λ found. ⌜ (found ≡ true

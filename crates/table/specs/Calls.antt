@@ -1,6 +1,7 @@
 -- Each call's checks and reply, and each written buffer afterwards.
 -- Numbers: 0 accepted, 1 prime, 2 size, 3 orders, 4 short buffer, 5 word or c not below P, 6 added orders, 7 zero pivot, 8 place, 9 file length, 10 chain.
 -- Buffers: 1 first table, 2 second, 3 column, 4 work, 5 result, 6 file bytes; 0 none.
+-- For each call X: XChecks, the checks in their order; XReply, the reply; XAfter, a written buffer that held d before; XT, a written table.
 use mathlib.Core.Bool.{_||_, not}
 use mathlib.Core.List.{List, [], _∷_, _++_}
 use Prim.Native.Nat.{ℕ, _+_, _*_, _-_}
