@@ -46,7 +46,12 @@ fn check_fractions(
     let accepted = check_numbers::accept(0);
     let primes = check_steps::also(accepted, bad_primes(p, q), 1, 0);
     let different = check_steps::also(primes, p == q, 11, 0);
-    let size = check_steps::also(different, check_numbers::bad_size(1024, n), 2, 0);
+    let size = check_steps::also(
+        different,
+        check_numbers::bad_size(check_numbers::MOST_SIZE, n),
+        2,
+        0,
+    );
     let first = check_steps::also_short(size, 1, x.len(), n as usize);
     let second = check_steps::also_short(first, 2, y.len(), n as usize);
     let above = check_steps::also_short(second, 4, numerators, n as usize);

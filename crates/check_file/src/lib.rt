@@ -51,7 +51,12 @@ pub fn check_read(f: &[u8], room: usize) -> Reply
     let s = file_words::word(f, 3);
     let accepted = check_numbers::accept(0);
     let prime = check_steps::also(accepted, check_numbers::bad_prime(p), 1, 0);
-    let size = check_steps::also(prime, check_numbers::bad_size(1024, n), 2, 0);
+    let size = check_steps::also(
+        prime,
+        check_numbers::bad_size(check_numbers::MOST_SIZE, n),
+        2,
+        0,
+    );
     let orders = check_steps::also(size, check_numbers::bad_order(r, s), 3, 6);
     if orders.number != 0 {
         return orders;

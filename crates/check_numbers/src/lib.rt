@@ -9,6 +9,13 @@ ghost use Rattle.table.specs.Calls.{sizeChecks};
 ghost use Rattle.table.specs.Undertakings.{Packed};
 ghost use Rattle.check_numbers.specs.Replied.{replied};
 
+// The limits, which Limits.antt of `table` names: the largest prime, size and order.
+pub const MOST_PRIME: u32 = 2147483647;
+
+pub const MOST_SIZE: u32 = 1024;
+
+pub const MOST_ORDER: u32 = 8;
+
 // A call's answer: 0 accepted, or the refusal's number; the buffer and the row beside it; the value.
 pub struct Reply {
     pub number: u32,
@@ -55,7 +62,7 @@ pub fn pack(y: Reply) -> u64
 pub fn bad_prime(p: u32) -> bool
     ensures { λ b. ⌜ b ≡ badPrime (standard .prime) p ⌝ }
 {
-    if 2147483647 < p {
+    if MOST_PRIME < p {
         true
     } else {
         !primes::is_prime(p)
@@ -71,7 +78,7 @@ pub fn bad_size(most: u32, n: u32) -> bool
 pub fn bad_order(r: u32, s: u32) -> bool
     ensures { λ b. ⌜ b ≡ badOrder (standard .order) r s ⌝ }
 {
-    if 8 < r { true } else { 8 < s }
+    if MOST_ORDER < r { true } else { MOST_ORDER < s }
 }
 
 // Whether k is outside 1 to n.
@@ -104,7 +111,7 @@ pub fn numbers_up_to(most: u32, p: u32, n: u32, r: u32, s: u32) -> Reply
 pub fn numbers(p: u32, n: u32, r: u32, s: u32) -> Reply
     ensures { λ y. ⌜ ((t : List ℕ) → replied y ≡ answer (sizeChecks p n standard (table r s t) []) (accept 0)) ⌝ }
 {
-    numbers_up_to(1024, p, n, r, s)
+    numbers_up_to(MOST_SIZE, p, n, r, s)
 }
 
 // ---- Rows.

@@ -107,11 +107,14 @@ pub fn first_bad(p: u32, f: &[u8], n: usize, r: usize, s: usize) -> usize
 
 // ---- The head.
 
+// The house prime, as Limits.antt of `table` has it.
+const HOUSE_PRIME: u32 = 2147483647;
+
 // The prime that the head's first word stands for: the house prime where it is 0.
 pub fn head_prime(f: &[u8]) -> u32
     requires { ⌜ 20 ≤ length (now f) ⌝ }
     ensures { λ v. ⌜ v ≡ headP (now (f .entry)) ⌝ }
 {
     let p = file_words::word(f, 0);
-    if p == 0 { 2147483647 } else { p }
+    if p == 0 { HOUSE_PRIME } else { p }
 }

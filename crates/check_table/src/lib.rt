@@ -83,5 +83,5 @@ pub fn check_solve(
         → Checked (solveEarlier p n (tab r s (now (t .entry))) (now (x .entry)) v d) y) ⌝ }
 {
     let need = n as usize * s as usize;
-    check_system(p, n, r, s, 1024, t, x, work, need, room)
+    check_system(p, n, r, s, check_numbers::MOST_SIZE, t, x, work, need, room)
 }
