@@ -1,9 +1,15 @@
-//! The calls that are timed, by the library and by the plain program.
+//! The calls that are timed, by the library and by the other program: the plain one, or an older archive of the library.
 
 use crate::lent::Lent;
 use crate::library;
+#[cfg(old)]
+use crate::library::old as other;
+#[cfg(not(old))]
+use plain as other;
 use plain::Refusal;
 use std::hint::black_box;
+
+pub const OTHER: &str = if cfg!(old) { "older archive" } else { "plain program" };
 
 /// Both orders of each table.
 const ORDERS: [u32; 4] = [1, 2, 4, 8];
@@ -20,7 +26,7 @@ pub type Run<T> = fn(&mut T) -> Option<u32>;
 pub struct Call {
     pub name: &'static str,
     pub library: Run<Lent>,
-    pub plain: Run<Lent>,
+    pub other: Run<Lent>,
     pub leaves: Leaves,
 }
 
@@ -50,9 +56,9 @@ macro_rules! call {
                 let $lent = black_box($lent);
                 library::$name($($argument),*)
             },
-            plain: |$lent| {
+            other: |$lent| {
                 let $lent = black_box($lent);
-                plain::$name($($argument),*).value()
+                other::$name($($argument),*).value()
             },
             leaves: Leaves::$leaves,
         }
@@ -118,9 +124,15 @@ impl Call {
     }
 }
 
-/// A reply of the plain program as the library's.
+/// A reply of the other program as the library's.
 trait Reply {
     fn value(self) -> Option<u32>;
+}
+
+impl Reply for Option<u32> {
+    fn value(self) -> Option<u32> {
+        self
+    }
 }
 
 impl Reply for Result<u32, Refusal> {

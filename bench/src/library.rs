@@ -1,12 +1,29 @@
-//! The library's calls on slices, with the arguments of the plain program's. All that is unsafe in them stands here.
+//! The library's calls on slices, with the arguments of the plain program's, and those of an older archive of it. All that is
+//! unsafe in them stands here.
 #![allow(clippy::too_many_arguments)]
 
+/// The calls of the library, and in the module old the same of the older archive.
+macro_rules! archives {
+    ($($calls:tt)*) => {
+        calls! { "" $($calls)* }
+
+        #[cfg(old)]
+        pub mod old {
+            use super::value;
+            calls! { "old_" $($calls)* }
+        }
+    };
+}
+
 /// Declares C calls and wraps them: numbers, then buffers that are read, then buffers that are written, each with its length.
+/// The archive has their symbols with this prefix.
 macro_rules! calls {
-    ($($name:ident = $symbol:ident($($number:ident),*; $($read:ident: $from:ty),*; $($written:ident: $to:ty),*);)*) => {
+    ($prefix:literal
+    $($name:ident = $symbol:ident($($number:ident),*; $($read:ident: $from:ty),*; $($written:ident: $to:ty),*);)*) => {
         mod c {
             extern "C" {
-                $(pub fn $symbol($($number: u32,)* $($read: *const $from, _: usize,)* $($written: *mut $to, _: usize),*) -> u64;)*
+                $(#[link_name = concat!($prefix, stringify!($symbol))]
+                pub fn $symbol($($number: u32,)* $($read: *const $from, _: usize,)* $($written: *mut $to, _: usize),*) -> u64;)*
             }
         }
 
@@ -18,7 +35,7 @@ macro_rules! calls {
     };
 }
 
-calls! {
+archives! {
     entry = residues_entry(p, n, r, s, i, j; table: u32;);
     matrix = residues_matrix(p, n, r, s; table: u32; result: u32);
     apply = residues_apply(p, n, r, s; table: u32, column: u32; result: u32);

@@ -1,5 +1,5 @@
-//! Times the library's calls beside those of the plain program, and some beside FLINT's, and prints tables. An argument names
-//! the only call to be timed.
+//! Times the library's calls beside those of the plain program, and some beside FLINT's, or beside those of an older archive, and
+//! prints tables. An argument names the only call to be timed.
 
 mod calls;
 mod clock;
@@ -60,6 +60,9 @@ fn print(lines: &[Line], flint: Option<String>, dense: &[Dense]) {
     println!(
         "P {p}, of fractions {q} too, random residues, at least {rounds} rounds; times and ratios are medians of the rounds'."
     );
+    if cfg!(old) {
+        return report::print_against(lines);
+    }
     report::print_ratios(lines);
     report::print_growth(lines);
     match flint {

@@ -1,6 +1,6 @@
 //! Times of a call at several sizes, by both programs in turn, so that what disturbs the machine disturbs both.
 
-use crate::calls::{Call, Run};
+use crate::calls::{Call, Run, OTHER};
 use crate::clock;
 use crate::lent::Lent;
 use std::time::{Duration, Instant};
@@ -22,7 +22,7 @@ pub struct Effort {
 #[derive(Clone, Copy, Default)]
 pub struct Pair {
     pub library: f64,
-    pub plain: f64,
+    pub other: f64,
 }
 
 /// A pair for each size.
@@ -42,14 +42,14 @@ impl Case {
     pub fn check(&mut self) {
         let (call, title) = (self.call, self.call.title(self.order));
         for lent in &mut self.lent {
-            let [plain, library] = [call.plain, call.library].map(|run| {
+            let [other, library] = [call.other, call.library].map(|run| {
                 lent.take_written();
                 (run(lent), lent.take_written())
             });
-            for (program, left) in [("plain program", &plain), ("library", &library)] {
+            for (program, left) in [(OTHER, &other), ("library", &library)] {
                 assert!(left.0.is_some(), "the {program} refuses {title} at N {}", lent.n);
             }
-            assert!(library == plain, "the library and the plain program differ in {title} at N {}", lent.n);
+            assert!(library == other, "the library and the {OTHER} differ in {title} at N {}", lent.n);
         }
     }
 
@@ -62,14 +62,14 @@ impl Case {
         Times { rounds }
     }
 
-    /// Each program once at every size, the library first, then once more, the plain program first.
+    /// Each program once at every size, the library first, then once more, the other program first.
     fn round(&mut self) -> Round {
         let mut round = vec![Pair::default(); self.lent.len()];
         for library_first in [true, false] {
             for (pair, lent) in round.iter_mut().zip(&mut self.lent) {
-                let [library, plain] = in_turn(library_first, self.call.library, self.call.plain, |run| time(run, lent));
+                let [library, other] = in_turn(library_first, self.call.library, self.call.other, |run| time(run, lent));
                 pair.library += library / 2.0;
-                pair.plain += plain / 2.0;
+                pair.other += other / 2.0;
             }
         }
         round
@@ -82,9 +82,9 @@ impl Times {
         median(self.rounds.iter().map(|round| by(&round[size])))
     }
 
-    /// The median of the rounds' ratios library / plain.
+    /// The median of the rounds' ratios library / other.
     pub fn ratio(&self, size: usize) -> f64 {
-        median(self.rounds.iter().map(|round| round[size].library / round[size].plain))
+        median(self.rounds.iter().map(|round| round[size].library / round[size].other))
     }
 
     /// The same at the last size.

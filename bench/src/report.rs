@@ -4,7 +4,7 @@ use crate::calls::{Call, DENSE_SIZES, SIZES};
 use crate::goals::{self, ORDER};
 use crate::measure::{Pair, Times};
 
-/// A call by the library and by the plain program.
+/// A call by the library and by the other program.
 pub struct Line {
     pub call: &'static Call,
     pub order: u32,
@@ -51,7 +51,7 @@ fn ratios_row(line: &Line) -> Vec<String> {
     let times = &line.times;
     let last = line.call.sizes().len() - 1;
     let ratios = (1..=last).map(|size| format!("{:.2}", times.ratio(size)));
-    let seconds = [(last, LIBRARY), (last, PLAIN), (0, LIBRARY), (0, PLAIN)].map(|(size, by)| duration(times.time(size, by)));
+    let seconds = [(last, LIBRARY), (last, OTHER), (0, LIBRARY), (0, OTHER)].map(|(size, by)| duration(times.time(size, by)));
     [line.title()].into_iter().chain(ratios).chain(seconds).collect()
 }
 
@@ -68,13 +68,30 @@ pub fn print_growth(lines: &[Line]) {
 
 fn growth_row(line: &Line) -> Vec<String> {
     let cost = format!("{:.1} ns", line.times.cost(1, line.call, LIBRARY) * 1e9);
-    let sizes = [LIBRARY, PLAIN].into_iter().flat_map(|by| (2..line.call.sizes().len()).map(move |size| (size, by)));
+    let sizes = [LIBRARY, OTHER].into_iter().flat_map(|by| (2..line.call.sizes().len()).map(move |size| (size, by)));
     let ratios = sizes.map(|(size, by)| format!("{:.2}", line.times.growth(size, line.call, by)));
     [line.title(), cost].into_iter().chain(ratios).collect()
 }
 
 const LIBRARY: fn(&Pair) -> f64 = |pair| pair.library;
-const PLAIN: fn(&Pair) -> f64 = |pair| pair.plain;
+const OTHER: fn(&Pair) -> f64 = |pair| pair.other;
+
+/// Ratios new / old at each size, and the times of whole calls at the last: one table, with nothing where a size is not timed.
+pub fn print_against(lines: &[Line]) {
+    let mut sizes: Vec<u32> = lines.iter().flat_map(|line| &line.call.sizes()[1..]).copied().collect();
+    sizes.sort();
+    sizes.dedup();
+    println!("\nRatios new / old; times at the greatest N of the call:\n");
+    print_table(head(&sizes, ["new", "old"]), lines.iter().map(|line| against_row(line, &sizes)).collect());
+}
+
+fn against_row(line: &Line, sizes: &[u32]) -> Vec<String> {
+    let (times, timed) = (&line.times, line.call.sizes());
+    let ratio = |n| timed.iter().position(|size| size == n).map(|size| format!("{:.2}", times.ratio(size)));
+    let ratios = sizes.iter().map(|n| ratio(n).unwrap_or_default());
+    let seconds = [LIBRARY, OTHER].map(|by| duration(times.time(timed.len() - 1, by)));
+    [line.title()].into_iter().chain(ratios).chain(seconds).collect()
+}
 
 /// Ratios FLINT / library at each size, and the times of whole calls.
 pub fn print_dense(version: &str, dense: &[Dense]) {
