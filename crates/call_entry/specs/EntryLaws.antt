@@ -54,8 +54,7 @@ module _ (P N r s : ℕ) (t : List ℕ) (g : Good P N (table r s t)) (w : ℕ) (
   pub diagonal-word : (j : ℕ) → i ≡ j → getD t (i * w) 0 ≡ val P (matrixOf P N (table r s t) i j)
   diagonal-word j e =
       let z : i * width r s ≡ i * width r s + 0 = omega arith in
-      let q : getD t (i * width r s) 0 < P = rw z (lower-down P N r s t g .diagonal i h .1) in
-      rw (ew .0) (sym (val-small P (prime-pos P (g .prime)) _ q) ∙ ap (val P) (entry-diagonal-is P r s t N i j e h))
+      rw (ew .0, z) (sym (val-small P (prime-pos P (g .prime)) _ (lower-down P N r s t g .diagonal i h .1)) ∙ ap (val P) (entry-diagonal-is P r s t N i j e h))
 
   pub diagonal-yields : (j : ℕ) → j ≤ i → i ≤ j → getD t (i * w) 0 ≡ entryW P N (table r s t) i j
   unfolding entryW

@@ -29,13 +29,13 @@ entry-word-spec =
     (λ c κs. search needs)
     (λ c κs. search needs)
     (λ c κs. let w = c .before .before in let q = start w .pre in
-    (lower-sweeps-down (q .0) (q .1) (w .row-width .ensures) (c .lower .ensures), q .1 .prime .two-le, c .before .if1 .taken, q .2))
+    (lower-sweeps-down (q .0) (q .1) (w .row-width .ensures) (c .lower .ensures), c .before .if1 .taken, q .2))
     (λ c. let h = c .before in let w = h .before .before in let s = start w in let a = s .args in
     below-yields (a .m .p) (a .n) (a .r) (a .s) (now (a .t)) _ (w .row-width .ensures .0) (a .i) (a .j) _ _
     (h .lower .ensures) (h .before .if1 .taken) (s .pre .2) (c .entry-below .ensures))
     (λ c κs. search needs)
     (λ c κs. let w = c .before .before .before in let q = start w .pre in
-    (upper-sweeps-up (q .0) (q .1) (w .row-width .ensures) (c .upper .ensures), q .1 .prime .two-le, c .before .if2 .taken, q .3))
+    (upper-sweeps-up (q .0) (q .1) (w .row-width .ensures) (c .upper .ensures), c .before .if2 .taken, q .3))
     (λ c. let h = c .before in let w = h .before .before .before in let s = start w in let a = s .args in
     above-yields (a .m .p) (a .n) (a .r) (a .s) (now (a .t)) _ (w .row-width .ensures .0) (a .i) (a .j) _ _
     (h .upper .ensures) (h .before .if2 .taken) (s .pre .3) (c .entry-above .ensures))

@@ -87,7 +87,7 @@ matrix-row-spec =
     let h = c .before in
     let w = h .before .before in
     let q = start w .pre in
-    (lower-sweeps-up (q .0) (q .1) (w .row-width .ensures) (lower-half h), q .1 .prime .two-le, q .2, omega (arith, q .3)))
+    (lower-sweeps-up (q .0) (q .1) (w .row-width .ensures) (lower-half h), q .2, omega (arith, q .3)))
     (λ c. omega (arith, lies (c .before .before)))
     (λ c. omega (arith, lies (c .before .before)))
     (λ c. lies (c .before .before .before))
@@ -99,6 +99,6 @@ matrix-row-spec =
     let h = c .before in
     let b = h .before .before .before .before .before in
     let q = first b .pre in
-    (upper-sweeps-down (q .0) (q .1) (width-of b .row-width .ensures) (upper-half h), q .1 .prime .two-le, q .2, room b _))
+    (upper-sweeps-down (q .0) (q .1) (width-of b .row-width .ensures) (upper-half h), q .2, room b _))
     (λ c. let u = c .before .before in ap length (written u) ∙ length-tabulate _ _ ∙ sym (first (before-of u) .pre .3))
     (λ c. written (c .before .before)))

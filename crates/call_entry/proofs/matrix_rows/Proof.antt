@@ -32,6 +32,7 @@ matrix-rows-spec =
     (q .0, q .1, h, lent-length _ _ _ _ (part-room (c .before .before .loop .inv) h .1) refl))
     (λ c. omega arith)
     (λ c. omega arith)
-    (λ c. written-more (c .before .before .before .before .before .loop .inv) (c .before .before .before .before .loop-test .taken) (λ k. length-tabulate _ _) (c .before .before .matrix-row .ensures))
+    (λ c. let i = c .before .before .before .before in
+    written-more (i .before .loop .inv) (i .loop-test .taken) (λ k. length-tabulate _ _) (c .before .before .matrix-row .ensures))
     (λ c. c .before .loop .inv .long)
     (λ c. written-done (c .before .loop .inv) _ (c .loop-test .left) refl (all-rows _ _ _ _ _)))
