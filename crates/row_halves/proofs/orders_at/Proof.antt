@@ -1,5 +1,5 @@
 -- `row_halves::orders_at` meets its contract.
-use mathlib.Core.Path.{_≡_, refl}
+use mathlib.Core.Path.{refl}
 use borrow.Author.Needs.{needs}
 use Rattle.row_halves.specs.RowOf.{gap-after}
 use Rattle.row_halves.proofs.orders_at.Statement.{statement}
