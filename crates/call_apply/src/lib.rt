@@ -1,5 +1,7 @@
 // The calls apply and apply transposed: each runs its checks in the refusal table's order; then a sweep down writes the result, and a sweep up adds to it.
 // No contract of a call asks anything of the caller.
+#![tactic(auto)]
+
 ghost use Rattle.std.specs.Prelude.{◌≡◌, ◌≤◌, length};
 ghost use Rattle.lists.specs.Lists.{begun};
 ghost use Rattle.field.specs.Ready.{Ready};

@@ -1,4 +1,6 @@
 // The dense solve: the matrix is written to the lent square and eliminated there. No contract of a call asks anything of the caller.
+#![tactic(auto)]
+
 ghost use Rattle.std.specs.Prelude.{true, false, ◌≡◌, ℕ, ◌*◌, ◌<◌, ◌≤◌, length, get_or};
 ghost use Rattle.field.specs.Ready.{Ready};
 ghost use Rattle.lists.specs.Lists.{tabulate, begun};

@@ -1,4 +1,6 @@
 // The calls entry and whole matrix: each runs its checks in the refusal table's order, then does its work. No contract asks anything of the caller.
+#![tactic(auto)]
+
 ghost use Rattle.std.specs.Prelude.{◌≡◌, ◌*◌, ◌<◌, ◌≤◌, length};
 ghost use Rattle.field.specs.Ready.{Ready};
 ghost use Rattle.field.specs.Residue.{val};

@@ -1,4 +1,6 @@
 // The calls on row files, read and write: each runs its checks in the order of its own, then does its work. No contract asks anything of the caller.
+#![tactic(auto)]
+
 ghost use Rattle.std.specs.Prelude.{◌≡◌, [], ◌∷◌, ℕ, suc, ◌+◌, ◌*◌, ◌<◌, ◌≤◌, eqb, length};
 ghost use Rattle.algebra.specs.Generators.{pick};
 ghost use Rattle.lists.specs.Lists.{rows_of, begun};

@@ -1,6 +1,8 @@
 // The call that turns two columns of residues into fractions. A first pass looks for a place without a fraction; a second one
 // writes, once there is none.
 // No contract of a public function asks anything of the caller.
+#![tactic(auto)]
+
 ghost use Rattle.std.specs.Prelude.{◌||◌, List, ◌≡◌, ℕ, ◌≤◌, ℤ, length};
 ghost use Rattle.lists.specs.Lists.{begun};
 ghost use Rattle.table.specs.Words.{first_bad_place_of};

@@ -1,5 +1,7 @@
 // The kernel call and its check: each runs its checks in the refusal table's order. The kernel call writes nothing before the first zero pivot is known; its
 // check applies the first k rows, which are a table of the leading k by k corner. No contract of a call asks anything of the caller.
+#![tactic(auto)]
+
 ghost use Rattle.std.specs.Prelude.{◌≡◌};
 ghost use Rattle.field.specs.Ready.{Ready};
 ghost use Rattle.table.specs.Words.{table as tab};

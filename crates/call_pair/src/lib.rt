@@ -1,4 +1,6 @@
 // The calls on two tables, sum and product: each runs its checks in the refusal table's order, then does its work. No contract asks anything of the caller.
+#![tactic(auto)]
+
 ghost use Rattle.std.specs.Prelude.{◌≡◌};
 ghost use Rattle.table.specs.Words.{table as tab};
 ghost use Rattle.table.specs.Calls.{sum_reply, sum_after, product_reply, product_after};

@@ -1,5 +1,7 @@
 // The calls with pivots, solve and inverse: each runs its checks in the refusal table's order, the pivots last, then does its work. Nothing is written
 // before the last pivot is known. No contract asks anything of the caller.
+#![tactic(auto)]
+
 ghost use Rattle.std.specs.Prelude.{◌≡◌};
 ghost use Rattle.table.specs.Words.{table as tab};
 ghost use Rattle.table.specs.Calls.{solve_reply, solve_after, work_after_of, inverse_reply, inverse_after};

@@ -1,4 +1,6 @@
 // The calls transpose and multiple: each runs its checks in the refusal table's order, then does its work. No contract asks anything of the caller.
+#![tactic(auto)]
+
 ghost use Rattle.std.specs.Prelude.{◌≡◌};
 ghost use Rattle.table.specs.Words.{table as tab};
 ghost use Rattle.table.specs.Calls.{transpose_reply, transpose_after, multiple_reply, multiple_after};

@@ -1,4 +1,6 @@
 // The checks of entry and whole matrix, one after the other in the order of the refusal table. `room` is the length of the result.
+#![tactic(auto)]
+
 ghost use Rattle.std.specs.Prelude.{◌||◌, List, ◌≡◌, ℕ, length};
 ghost use Rattle.table.specs.Words.{table as tab};
 ghost use Rattle.table.specs.Replies.{bad_place_of};

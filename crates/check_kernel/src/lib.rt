@@ -1,4 +1,6 @@
 // The checks of the kernel call's check, one after the other in the order of the refusal table. Those of the kernel call are check_table::check_result.
+#![tactic(auto)]
+
 ghost use Rattle.table.specs.Words.{table as tab};
 ghost use Rattle.table_kernel.specs.KernelCall.{shows_checks};
 ghost use Rattle.check_steps.specs.Checked.{Checked};

@@ -1,4 +1,6 @@
 // Replies, the checks of the numbers that all calls share, in the order of the refusal table, and the sizes of rows.
+#![tactic(auto)]
+
 ghost use Rattle.std.specs.Prelude.{◌≡◌, List, [], ℕ, ◌≤◌};
 ghost use Rattle.table.specs.Limits.{standard, up_to, most_width};
 ghost use Rattle.table.specs.Words.{table, gap, width};

@@ -1,4 +1,6 @@
 // The checks of sum and product, one after the other in the order of the refusal table. `room` is the length of the result.
+#![tactic(auto)]
+
 ghost use Rattle.std.specs.Prelude.{List, ◌≡◌, ℕ, length};
 ghost use Rattle.table.specs.Words.{table as tab};
 ghost use Rattle.table.specs.Calls.{pair_checks};

@@ -1,4 +1,6 @@
 // What is checked of a row file: the chain of its records, the words of each row; and the prime of its head.
+#![tactic(auto)]
+
 ghost use Rattle.std.specs.Prelude.{◌≡◌, ◌+◌, ◌*◌, ◌<◌, ◌≤◌, leb, length};
 ghost use Rattle.lists.specs.Lists.{some};
 ghost use Rattle.lists.specs.Index.{farthest};

@@ -1,5 +1,7 @@
 // The steps that a call's checks are put together from, in the order of the refusal table: each hands on a refusal that was given before it, or
 // looks for one cause more. `Adds c y z`: where y answers some checks, z answers these and then c.
+#![tactic(auto)]
+
 ghost use Rattle.std.specs.Prelude.{◌≡◌, ◌*◌, ◌≤◌, ltb, length};
 ghost use Rattle.table.specs.Words.{table as tab, width, first_bad_place_of};
 ghost use Rattle.table.specs.Replies.{check, check_row, refuse};

@@ -1,4 +1,6 @@
 // Whether the words of a table or a column are below the prime: the last checks of the calls.
+#![tactic(auto)]
+
 ghost use Rattle.std.specs.Prelude.{◌≡◌, ◌+◌, ◌*◌, ◌<◌, ◌≤◌, leb, length, get_or};
 ghost use Rattle.lists.specs.Lists.{some};
 ghost use Rattle.table.specs.Words.{table, width, place, bad_row_of, first_bad_of, first_bad_place_of};

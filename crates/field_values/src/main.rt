@@ -1,4 +1,6 @@
 // Runs the field's functions on numbers whose answers are known from elsewhere, and prints what they give.
+#![tactic(auto)]
+
 ghost use Rattle.std.specs.Prelude.{◌<◌};
 ghost use Rattle.field.specs.Ready.{Ready};
 

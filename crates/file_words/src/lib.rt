@@ -1,4 +1,6 @@
 // The words of a file, read and written as four bytes each, the lowest first.
+#![tactic(auto)]
+
 ghost use Rattle.std.specs.Prelude.{◌≡◌, List, ◌++◌, ℕ, ◌+◌, ◌*◌, ◌<◌, ◌≤◌, length, get_or, drop};
 ghost use Rattle.algebra.specs.Generators.{pick};
 ghost use Rattle.lists.specs.Lists.{tabulate, put_at};

@@ -1,5 +1,7 @@
 // Lists a row file that it reads from standard input: its prime, size and orders, its matrix, and the row of the first zero pivot if there is one.
 // Each line is worked out by a proved function of crate `listing`; here they are written, one after the other.
+#![tactic(auto)]
+
 ghost use Rattle.std.specs.Prelude.{◌≤◌, length};
 ghost use Rattle.field.specs.Ready.{Ready};
 ghost use Rattle.table.specs.Words.{table as tab};

@@ -1,4 +1,6 @@
 // The lister's lines, put into a lent buffer: each function puts its text from `at` on and returns where it ends.
+#![tactic(auto)]
+
 ghost use Rattle.std.specs.Prelude.{[], ◌++◌, ◌+◌, ◌*◌, ◌≤◌, eqb, length};
 ghost use Rattle.algebra.specs.Generators.{pick};
 ghost use Rattle.table.specs.Replies.{refuse};

@@ -1,4 +1,6 @@
 // The C library: thin functions over the proved calls, with the reply packed into 64 bits. include/residues.h declares them.
+#![tactic(auto)]
+
 ghost use Rattle.std.specs.Prelude.{◌≡◌};
 ghost use Rattle.table.specs.Words.{table as tab};
 ghost use Rattle.table.specs.Replies.{packed};

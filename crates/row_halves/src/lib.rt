@@ -1,4 +1,6 @@
 // Where the generators of a row stand: the half below the diagonal and the half above it, as they stand or transposed.
+#![tactic(auto)]
+
 ghost use Rattle.std.specs.Prelude.{◌≡◌, ◌<◌, ◌≤◌};
 ghost use Rattle.row_halves.specs.Halves.{orders_at_of, lower_half, upper_half, transposed_half};
 

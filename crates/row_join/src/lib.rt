@@ -1,4 +1,6 @@
 // One half of a row, joined from the halves of two tables' rows, for the sum and the product. Unused words become 0.
+#![tactic(auto)]
+
 ghost use Rattle.std.specs.Prelude.{◌≡◌, ◌++◌, ℕ, ◌+◌, ◌*◌, ◌/◌, ◌%◌, ◌<◌, ◌≤◌, length};
 ghost use Rattle.algebra.specs.Sums.{join};
 ghost use Rattle.algebra.specs.Generators.{pick};

@@ -1,4 +1,6 @@
 // One row of a table, read from its record in a file and written to it. A record is the number of the next one, then the row; unused words become 0.
+#![tactic(auto)]
+
 ghost use Rattle.std.specs.Prelude.{◌≡◌, List, ◌∷◌, ◌++◌, ℕ, ◌+◌, ◌*◌, ◌<◌, ◌≤◌, length, get_or, drop};
 ghost use Rattle.algebra.specs.Kinds.{Kind};
 ghost use Rattle.table.specs.Words.{width, place, Used, row_gens, row_words_of};

@@ -1,4 +1,6 @@
 // The transpose of a table, row by row. Unused words become 0.
+#![tactic(auto)]
+
 ghost use Rattle.std.specs.Prelude.{◌≡◌, ℕ, ◌+◌, ◌*◌, ◌<◌, ◌≤◌, length, get_or};
 ghost use Rattle.lists.specs.Lists.{begun};
 ghost use Rattle.table.specs.Words.{table, width, first_bad_of};
