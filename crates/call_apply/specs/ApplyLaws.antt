@@ -7,11 +7,11 @@ use Rattle.field.specs.Residue.{residues, res, val, res_val, val_below}
 use Rattle.lists.specs.Lists.{tabulate}
 use Rattle.lists.specs.ListLaws.{length_tabulate, get_d_here, tabulate_same}
 use Rattle.table.specs.Words.{Table, table, width, matrix_of, first_bad_place_of}
-use Rattle.table.specs.WordLaws.{place_below}
+use Rattle.table.proofs.WordLaws.{place_below}
 use Rattle.table.specs.Replies.{Accepted}
 use Rattle.table.specs.Results.{column, apply_w, apply_transposed_w}
 use Rattle.table.specs.Calls.{apply_reply, apply_after, apply_transposed_after}
-use Rattle.table.specs.CallLaws.{accepted_leaves, written_length}
+use Rattle.table.proofs.CallLaws.{accepted_leaves, written_length}
 use Rattle.block.specs.Block.{along, Within}
 use Rattle.row_halves.specs.declared.Half.{Half}
 use Rattle.row_halves.specs.Halves.{lower_half, upper_half, transposed_half}

@@ -10,13 +10,13 @@ use Rattle.lists.specs.ListLaws.{length_tabulate}
 use Rattle.field.specs.Ready.{Allowed}
 use Rattle.table.specs.Words.{Table}
 use Rattle.table.specs.Replies.{Reply, Check, check, accept, refuse, answer}
-use Rattle.table.specs.CallLaws.{number_is, other_number, refused_leaves, accepted_leaves}
+use Rattle.table.proofs.CallLaws.{number_is, other_number, refused_leaves, accepted_leaves}
 use Rattle.table.specs.Undertakings.{GoodTable}
 use Rattle.check_numbers.specs.Passed.{Good, good_of}
 use Rattle.check_steps.specs.StepLaws.{here, next, last, first_stop, first_clear, first_accept, first_pass}
 use Rattle.table_dense.specs.DenseCall.{nonsingular_w, dense_w, dense_earlier, dense_reply, dense_after, square_after_of}
 use Rattle.table_dense.specs.DensePromises.{GoodSize, GoodSystem}
-use Rattle.table_dense.specs.DensePromisesProof.{earlier_good, promises}
+use Rattle.table_dense.proofs.DensePromisesProof.{earlier_good, promises}
 
 -- the call replies w and leaves the square sq and the result out
 abbrev pub Leaves : (P N : ℕ) (A : Table) (x v d : List ℕ) (w : Reply) (sq out : List ℕ) → Type 0

@@ -13,7 +13,7 @@ use Rattle.lists.specs.ListLaws.{length_tabulate, length_rows, get_d_tabulate, g
 use Rattle.table.specs.Words.{Table, matrix_of}
 use Rattle.table.specs.Results.{column, matrix_w}
 use Rattle.check_numbers.specs.Passed.{Good}
-use Rattle.table.specs.CallLaws.{written_length}
+use Rattle.table.proofs.CallLaws.{written_length}
 use Rattle.algebra_elimination.specs.Elimination.{solution}
 use Rattle.row_dense.specs.DenseRows.{Square, Beside}
 use Rattle.row_dense.specs.RowLaws.{under}

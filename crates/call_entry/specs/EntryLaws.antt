@@ -7,7 +7,7 @@ use Rattle.table.specs.Words.{Table, table, width, matrix_of}
 use Rattle.table.specs.Replies.{Reply, accept, answer}
 use Rattle.table.specs.Results.{entry_w}
 use Rattle.table.specs.Calls.{entry_checks, entry_reply}
-use Rattle.table.specs.CallLaws.{passed, open_checks, refused_by, given}
+use Rattle.table.proofs.CallLaws.{passed, open_checks, refused_by, given}
 use Rattle.table.specs.Limits.{most_size, most_width}
 use Rattle.check_numbers.specs.Passed.{Good}
 use Rattle.row_halves.specs.declared.Half.{Half}

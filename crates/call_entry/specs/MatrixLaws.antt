@@ -11,7 +11,7 @@ use Rattle.table.specs.Words.{table, width, matrix_of}
 use Rattle.table.specs.Replies.{Accepted}
 use Rattle.table.specs.Results.{matrix_w}
 use Rattle.table.specs.Calls.{matrix_reply, matrix_after}
-use Rattle.table.specs.CallLaws.{accepted_leaves}
+use Rattle.table.proofs.CallLaws.{accepted_leaves}
 use Rattle.row_halves.specs.declared.Half.{Half}
 use Rattle.row_halves.specs.Halves.{lower_half, upper_half, transposed_half}
 use Rattle.row_words.specs.PutLaws.{put_add}

@@ -6,14 +6,14 @@ use Rattle.algebra.specs.Kinds.{Kind}
 use Rattle.field.specs.Residue.{res, prime_pos}
 use Rattle.lists.specs.Lists.{rows_of}
 use Rattle.table.specs.Words.{Used, width, place, row_gens, row_words_of, table_words}
-use Rattle.table.specs.WordLaws.{row_length, row_same}
+use Rattle.table.proofs.WordLaws.{row_length, row_same}
 use Rattle.table.specs.RowFile.{file_word, file_bytes, head_p, head_n, head_r, head_s, record_at_of, met, file_gens, first_broken_of, first_bad_in_file, read_w}
-use Rattle.table.specs.RowFileLaws.{file_words_below}
+use Rattle.table.proofs.RowFileLaws.{file_words_below}
 use Rattle.table.specs.Replies.{Accepted}
 use Rattle.table.specs.Calls.{read_reply, read_after}
-use Rattle.table.specs.AcceptsProof.{read_accepts}
-use Rattle.table.specs.FileLaws.{read_length, read_chain}
-use Rattle.table.specs.CallLaws.{accepted_leaves, written_length}
+use Rattle.table.proofs.AcceptsProof.{read_accepts}
+use Rattle.table.proofs.FileLaws.{read_length, read_chain}
+use Rattle.table.proofs.CallLaws.{accepted_leaves, written_length}
 use Rattle.check_records.specs.Filed.{Headed}
 
 -- a word of row k, which is the record met after k others, and the row as it is read, by the size and the orders that code holds

@@ -4,14 +4,14 @@ use Rattle.std.specs.Prelude.{◌≡◌, List, ℕ, suc, ◌<◌, ◌≤◌, len
 use Rattle.std.proofs.Common.{sym, ◌∙◌, arith}
 use Rattle.algebra.specs.Kinds.{Kind}
 use Rattle.table.specs.Words.{Used, Room}
-use Rattle.table.specs.WordLaws.{words_below}
+use Rattle.table.proofs.WordLaws.{words_below}
 use Rattle.table.specs.RowFile.{file_word, file_bytes, head_p, head_n, head_r, head_s, met, file_row_word}
 use Rattle.table.specs.Replies.{Accepted}
 use Rattle.table.specs.Calls.{read_reply, read_t, write_reply}
 use Rattle.table.specs.Undertakings.{file_left}
-use Rattle.table.specs.AcceptsProof.{read_accepts, accepts}
-use Rattle.table.specs.FileLaws.{reads_file, writes_file}
-use Rattle.table.specs.UndertakingsProof.{lengths}
+use Rattle.table.proofs.AcceptsProof.{read_accepts, accepts}
+use Rattle.table.proofs.FileLaws.{reads_file, writes_file}
+use Rattle.table.proofs.UndertakingsProof.{lengths}
 
 -- f in its canonical form: P in full, the records in the order of the rows, unused words 0
 pub record Canonical (f file : List ℕ) : Type 0 where

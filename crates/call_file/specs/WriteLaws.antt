@@ -10,9 +10,9 @@ use Rattle.field.specs.Residue.{res, prime_pos}
 use Rattle.lists.specs.Lists.{rows_of, put_at}
 use Rattle.lists.specs.ListLaws.{rows_part}
 use Rattle.table.specs.Words.{table, Used, width, place, table_word, gens, row_gens, row_words_of, first_bad_of}
-use Rattle.table.specs.WordLaws.{room, row_length, row_same, used_below}
+use Rattle.table.proofs.WordLaws.{room, row_length, row_same, used_below}
 use Rattle.table.specs.RowFile.{byte_of, bytes_of, file_bytes, write_w, words_of_file}
-use Rattle.table.specs.RowFileLaws.{length_bytes, file_length}
+use Rattle.table.proofs.RowFileLaws.{length_bytes, file_length}
 use Rattle.check_numbers.specs.Passed.{Good}
 use Rattle.row_words.specs.RowLaws.{lent_word}
 use Rattle.file_words.specs.ByteLaws.{bytes_append, bytes_word, bytes_join}

@@ -8,13 +8,13 @@ use Rattle.field.specs.Ready.{Allowed}
 use Rattle.table.specs.Words.{Table}
 use Rattle.table.specs.Results.{first_zero_of}
 use Rattle.table.specs.Replies.{Reply, Check, check, accept, refuse, answer}
-use Rattle.table.specs.CallLaws.{number_is, refused_leaves, accepted_leaves}
+use Rattle.table.proofs.CallLaws.{number_is, refused_leaves, accepted_leaves}
 use Rattle.check_numbers.specs.Passed.{Good, good_of}
 use Rattle.check_steps.specs.StepLaws.{here, next, last, first_stop, first_clear, first_pass}
 use Rattle.table_kernel.specs.KernelCall.{kernel_w, kernel_earlier, kernel_reply, kernel_after}
 use Rattle.table_kernel.specs.KernelPromises.{GoodLoan}
 use Rattle.sweep_kernel.specs.KernelSweepLaws.{no_words}
-use Rattle.table_kernel.specs.KernelProof.{earlier_good}
+use Rattle.table_kernel.proofs.KernelProof.{earlier_good}
 
 -- the call replies w and leaves the result out
 abbrev pub Leaves : (P N : ℕ) (A : Table) (d : List ℕ) (w : Reply) (out : List ℕ) → Type 0

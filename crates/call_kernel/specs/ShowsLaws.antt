@@ -14,16 +14,16 @@ use Rattle.lists.specs.Lists.{some}
 use Rattle.lists.specs.ListLaws.{get_d_here, some_same}
 use Rattle.field.specs.Ready.{Allowed}
 use Rattle.table.specs.Words.{Table, matrix_of}
-use Rattle.table.specs.Corners.{corner_is, corner_words_lem}
+use Rattle.table.proofs.Corners.{corner_is, corner_words_lem}
 use Rattle.table.specs.Results.{column, apply_w}
 use Rattle.table.specs.Replies.{Reply, NoFault, accept, answer}
-use Rattle.table.specs.CallLaws.{open_checks}
+use Rattle.table.proofs.CallLaws.{open_checks}
 use Rattle.check_numbers.specs.Passed.{Good, good_of}
 use Rattle.block.specs.Block.{Within}
 use Rattle.check_steps.specs.StepLaws.{first_stop, first_clear}
 use Rattle.table_kernel.specs.KernelCall.{shows, shows_checks, shows_reply}
 use Rattle.table_kernel.specs.KernelPromises.{GoodQuestion}
-use Rattle.table_kernel.specs.KernelPromisesProof.{clear_good}
+use Rattle.table_kernel.proofs.KernelPromisesProof.{clear_good}
 
 -- a word that the matrix sends the column to is not 0, of a table of n rows
 abbrev pub some_sent : (P n : ℕ) → Table → List ℕ → Bool

@@ -5,12 +5,12 @@ use mathlib.Core.List.{List, [], ◌++◌}
 use Rattle.field.specs.Residue.{prime_pos}
 use Rattle.field.specs.Ready.{Allowed}
 use Rattle.table.specs.Words.{Table, width}
-use Rattle.table.specs.WordLaws.{length_table}
+use Rattle.table.proofs.WordLaws.{length_table}
 use Rattle.table.specs.Replies.{Reply, Accepted, accept, answer, after}
 use Rattle.table.specs.Results.{sum_w, product_w}
 use Rattle.table.specs.Calls.{pair_checks, sum_reply, product_reply}
 use Rattle.check_numbers.specs.Passed.{GoodPair, sum_passed, product_passed}
-use Rattle.table.specs.CallLaws.{refused_leaves, accepted_leaves, written_length}
+use Rattle.table.proofs.CallLaws.{refused_leaves, accepted_leaves, written_length}
 use Rattle.call_pair.specs.PairCall.{PairCall}
 
 module _ {P N : ℕ} {A B : Table} {d : List ℕ} {W : ℕ → List ℕ} {y x : Reply} (c : PairCall P N A B d W y x) where

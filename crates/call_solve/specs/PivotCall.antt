@@ -3,7 +3,7 @@ use Rattle.std.specs.Prelude.{true, [], ◌∷◌, ◌++◌, List, ◌≡◌, �
 use Rattle.table.specs.Words.{Table}
 use Rattle.table.specs.Replies.{Reply, Check, accept, answer, NoFault}
 use Rattle.table.specs.Calls.{check_pivots}
-use Rattle.table.specs.CallLaws.{refusing}
+use Rattle.table.proofs.CallLaws.{refusing}
 use Rattle.check_numbers.specs.Passed.{Good}
 
 -- cs are the checks before the pivots and x their reply; y is the one that the call owes. Where cs find nothing, the table is good.

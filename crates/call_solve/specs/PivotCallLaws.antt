@@ -5,7 +5,7 @@ use mathlib.Core.List.{List, [], ◌∷◌, ◌++◌}
 use Rattle.field.specs.Residue.{prime_pos}
 use Rattle.field.specs.Ready.{Allowed}
 use Rattle.table.specs.Words.{Table, first_bad_place_of}
-use Rattle.table.specs.WordLaws.{place_below, length_table}
+use Rattle.table.proofs.WordLaws.{place_below, length_table}
 use Rattle.table.specs.Results.{first_zero_of, solve_w, work_w, inverse_w}
 use Rattle.table.specs.Replies.{Reply, Check, Accepted, NoFault, accept, refuse, answer, after}
 use Rattle.table.specs.Calls.{check_pivots, solve_earlier, solve_reply, inverse_earlier, inverse_reply, table_length}
@@ -13,7 +13,7 @@ use Rattle.check_numbers.specs.Passed.{Good, solve_passed, inverse_passed}
 use Rattle.block.specs.Block.{Within}
 use Rattle.check_steps.specs.StepLaws.{here, next, last, first_stop, first_clear, first_accept, first_pass, row_found, row_none}
 use Rattle.sweep_solve.specs.SolveSweep.{work_length, solve_length}
-use Rattle.table.specs.CallLaws.{accepted_leaves}
+use Rattle.table.proofs.CallLaws.{accepted_leaves}
 use Rattle.call_solve.specs.PivotCall.{PivotCall}
 
 module _ {P N : ℕ} {A : Table} {cs : List Check} {y x : Reply} (c : PivotCall P N A cs y x) where

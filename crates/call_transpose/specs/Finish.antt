@@ -4,10 +4,10 @@ use Rattle.std.proofs.Common.{sym, ap₂, ◌∙◌, arith, length-append, lengt
 use Rattle.std.proofs.Math.Path.{ap}
 use mathlib.Core.List.{List, [], ◌++◌}
 use Rattle.table.specs.Words.{table, width}
-use Rattle.table.specs.WordLaws.{width_swap, length_table}
+use Rattle.table.proofs.WordLaws.{width_swap, length_table}
 use Rattle.table.specs.Replies.{Reply, Accepted, after}
 use Rattle.table.specs.Results.{transpose_w, multiple_w}
-use Rattle.table.specs.CallLaws.{kept}
+use Rattle.table.proofs.CallLaws.{kept}
 
 module _ (P N r s : ℕ) (t : List ℕ) where
   pub transpose_length : length (transpose_w P N (table r s t)) ≡ N * width r s

@@ -6,7 +6,7 @@ use Rattle.table.specs.Limits.{standard, most_size, most_width}
 use Rattle.table.specs.Words.{width}
 use Rattle.table.specs.Replies.{bad_size_of, bad_order}
 use Rattle.table.specs.RowFile.{file_bytes, head_n, head_r, head_s}
-use Rattle.table.specs.CallLaws.{both_hold}
+use Rattle.table.proofs.CallLaws.{both_hold}
 use Rattle.check_steps.specs.StepLaws.{order_within}
 use Rattle.check_records.specs.Filed.{Headed}
 

@@ -10,7 +10,7 @@ use Rattle.algebra.specs.Kinds.{Kind, d_word, p_row, a_block, q_column, g_row, b
 use Rattle.lists.specs.Lists.{some}
 use Rattle.lists.specs.ListLaws.{or_none}
 use Rattle.table.specs.Words.{gap, shape, full, kinds, before, width, block_size, blocks_size, place, table, table_word, bad_block, bad_row_of, outer}
-use Rattle.table.specs.WordLaws.{sizes_all, place_lt, gap_full, room, bad_same}
+use Rattle.table.proofs.WordLaws.{sizes_all, place_lt, gap_full, room, bad_same}
 use Rattle.table.specs.Replies.{Reply, reply}
 
 -- Tests.

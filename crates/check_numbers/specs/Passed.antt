@@ -13,8 +13,8 @@ use Rattle.table.specs.Results.{entry_w}
 use Rattle.table.specs.RowFile.{file_bytes}
 use Rattle.table.specs.Calls.{table_length, entry_checks, entry_reply, matrix_checks, matrix_reply, apply_checks, apply_reply, transpose_checks, transpose_reply}
 use Rattle.table.specs.Calls.{multiple_checks, multiple_reply, pair_checks, sum_reply, product_reply, solve_earlier, inverse_earlier, write_checks, write_reply}
-use Rattle.table.specs.CallLaws.{passed, no_row, both_hold, good_prime}
-use Rattle.table.specs.WordLaws.{words_below}
+use Rattle.table.proofs.CallLaws.{passed, no_row, both_hold, good_prime}
+use Rattle.table.proofs.WordLaws.{words_below}
 use Rattle.table.specs.Undertakings.{GoodNumbers, GoodTable}
 
 -- The prime, the size and the orders are within the limits, the table is long enough and no used word of it is P or more.

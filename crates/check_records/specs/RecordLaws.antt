@@ -5,9 +5,9 @@ use Rattle.std.proofs.Math.Path.{ap, ap₂, fun_ext}
 use Rattle.algebra.specs.Kinds.{Kind}
 use Rattle.lists.specs.Lists.{some, first_of}
 use Rattle.table.specs.Words.{width, place, Used, bad_row_of}
-use Rattle.table.specs.WordLaws.{place_lt, room, bad_same}
+use Rattle.table.proofs.WordLaws.{place_lt, room, bad_same}
 use Rattle.table.specs.RowFile.{file_word, file_bytes, head_p, head_r, head_s, record_at_of, met, first_broken_of, first_bad_in_file}
-use Rattle.table.specs.RowFileLaws.{right_met}
+use Rattle.table.proofs.RowFileLaws.{right_met}
 use Rattle.check_records.specs.Filed.{Headed}
 
 -- record m ends where m records end

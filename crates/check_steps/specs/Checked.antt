@@ -3,7 +3,7 @@ use Rattle.std.specs.Prelude.{true, List, [], ◌∷◌, ◌++◌, ◌≡◌, �
 use Rattle.table.specs.Limits.{most_size, most_order}
 use Rattle.table.specs.Words.{width}
 use Rattle.table.specs.Replies.{Check, accept, answer}
-use Rattle.table.specs.CallLaws.{refusing}
+use Rattle.table.proofs.CallLaws.{refusing}
 use Rattle.check_numbers.specs.declared.Reply.{Reply}
 use Rattle.check_numbers.specs.Replied.{replied}
 

@@ -6,7 +6,7 @@ use Rattle.table.specs.Limits.{standard, most_order, most_size}
 use Rattle.table.specs.Words.{Table}
 use Rattle.table.specs.Replies.{Reply, Check, check, accept, answer, NoFault, bad_size_of, bad_order}
 use Rattle.check_steps.specs.Checked.{Sized}
-use Rattle.table.specs.CallLaws.{refusing, passed, open_checks, refused_by, given, answer_append, both_hold}
+use Rattle.table.proofs.CallLaws.{refusing, passed, open_checks, refused_by, given, answer_append, both_hold}
 
 -- A reply against a call's checks: one more holds and gives it, one more doesn't hold, none is left.
 pub here : {c : Bool} {y w : Reply} (cs : List Check) (v : Reply) → c ≡ true → w ≡ y → w ≡ answer (check c y ∷ cs) v

@@ -6,7 +6,7 @@ use Rattle.lists.specs.Lists.{tabulate, put_at}
 use Rattle.lists.specs.ListLaws.{length_tabulate}
 use Rattle.lists.specs.Writing.{tabulate_snoc, put_none, put_more, put_next}
 use Rattle.table.specs.RowFile.{byte_of, bytes_of}
-use Rattle.table.specs.RowFileLaws.{length_bytes}
+use Rattle.table.proofs.RowFileLaws.{length_bytes}
 
 -- the bytes of words and more words
 pub bytes_append : (xs ys : List ℕ) → bytes_of (xs ++ ys) ≡ bytes_of xs ++ bytes_of ys

@@ -5,9 +5,9 @@ use Rattle.table.specs.Words.{table}
 use Rattle.table.specs.RowFile.{head_p, head_n, head_r, head_s}
 use Rattle.table.specs.Replies.{Reply, reply, Accepted}
 use Rattle.table.specs.Calls.{read_reply, read_after, read_t}
-use Rattle.table.specs.AcceptsProof.{read_accepts}
-use Rattle.table.specs.FileLaws.{reads_file}
-use Rattle.table.specs.UndertakingsProof.{lengths, values}
+use Rattle.table.proofs.AcceptsProof.{read_accepts}
+use Rattle.table.proofs.FileLaws.{reads_file}
+use Rattle.table.proofs.UndertakingsProof.{lengths, values}
 use Rattle.check_numbers.specs.Passed.{Good}
 
 module _ (f d : List ℕ) (number buffer row value : ℕ) (answered : reply number buffer row value ≡ read_reply f d) (none : number ≡ 0) where

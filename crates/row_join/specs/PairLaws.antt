@@ -2,7 +2,7 @@
 use Rattle.std.specs.Prelude.{◌≡◌, List, ℕ, ◌+◌, ◌-◌, ◌*◌, ◌<◌, ◌≤◌, length, get_or}
 use Rattle.std.proofs.Common.{sym, ap, ◌∙◌, arith}
 use Rattle.algebra.specs.Sums.{join}
-use Rattle.algebra.specs.Join.{join_left, join_right}
+use Rattle.algebra.proofs.Join.{join_left, join_right}
 use Rattle.lists.specs.Lists.{put_at}
 use Rattle.lists.specs.Writing.{put_same}
 use Rattle.row_words.specs.PutLaws.{put_add}

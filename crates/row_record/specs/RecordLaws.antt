@@ -9,7 +9,7 @@ use Rattle.table.specs.Words.{Used, place, row_gens, row_words_of}
 use Rattle.table.specs.RowFile.{byte_of, bytes_of}
 use Rattle.row_words.specs.Rows.{half_words, copied_half}
 use Rattle.row_words.specs.RowLaws.{as_block, copied_row}
-use Rattle.table.specs.WordLaws.{gen_word}
+use Rattle.table.proofs.WordLaws.{gen_word}
 use Rattle.file_words.specs.ByteLaws.{Bytes, bytes_word, bytes_join, bytes_all}
 
 -- one half of a row, block by block

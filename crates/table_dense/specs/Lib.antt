@@ -1,4 +1,2 @@
 pub mod DenseCall
 pub mod DensePromises
-pub mod DensePromisesProof
-pub mod DenseExamples

@@ -1,5 +1,2 @@
 pub mod KernelCall
 pub mod KernelPromises
-pub mod KernelProof
-pub mod KernelPromisesProof
-pub mod KernelExamples

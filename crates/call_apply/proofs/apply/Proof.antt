@@ -11,7 +11,7 @@ use Rattle.table.specs.Results.{apply_w}
 use Rattle.table.specs.Replies.{Reply, Accepted}
 use Rattle.table.specs.Calls.{apply_reply}
 use Rattle.check_numbers.specs.Passed.{Good, apply_passed}
-use Rattle.table.specs.CallLaws.{refused_leaves}
+use Rattle.table.proofs.CallLaws.{refused_leaves}
 use Rattle.check_numbers.specs.Replied.{replied}
 use Rattle.call_apply.specs.ApplyLaws.{apply_leaves, column_reads}
 use Rattle.call_apply.proofs.apply.Statement.{statement}

@@ -11,7 +11,7 @@ use Rattle.table.specs.Words.{Table, table, first_bad_place_of}
 use Rattle.table.specs.Results.{apply_transposed_w}
 use Rattle.table.specs.Replies.{Reply, Accepted}
 use Rattle.table.specs.Calls.{apply_reply}
-use Rattle.table.specs.CallLaws.{refused_leaves}
+use Rattle.table.proofs.CallLaws.{refused_leaves}
 use Rattle.block.specs.Block.{Within}
 use Rattle.row_halves.specs.Halves.{lower_half, upper_half, transposed_half}
 use Rattle.check_numbers.specs.Passed.{Good, apply_passed}

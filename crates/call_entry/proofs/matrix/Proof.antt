@@ -10,7 +10,7 @@ use Rattle.table.specs.Words.{Table, table}
 use Rattle.table.specs.Results.{matrix_w}
 use Rattle.table.specs.Replies.{Reply, Accepted}
 use Rattle.table.specs.Calls.{matrix_reply}
-use Rattle.table.specs.CallLaws.{refused_leaves}
+use Rattle.table.proofs.CallLaws.{refused_leaves}
 use Rattle.check_numbers.specs.Replied.{replied}
 use Rattle.check_numbers.specs.Passed.{Good, matrix_passed}
 use Rattle.call_entry.specs.MatrixLaws.{matrix_leaves}

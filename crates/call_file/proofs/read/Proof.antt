@@ -8,8 +8,8 @@ use lib.ListN.{length}
 use Rattle.table.specs.RowFile.{read_w}
 use Rattle.table.specs.Replies.{Reply, reply, Accepted}
 use Rattle.table.specs.Calls.{read_reply}
-use Rattle.table.specs.AcceptsProof.{read_accepts}
-use Rattle.table.specs.CallLaws.{refused_leaves}
+use Rattle.table.proofs.AcceptsProof.{read_accepts}
+use Rattle.table.proofs.CallLaws.{refused_leaves}
 use Rattle.call_file.specs.ReadLaws.{read_passed, read_kept, read_leaves}
 use Rattle.call_file.proofs.read.Statement.{statement}
 use Rattle.call_file.proofs.read.Tie as tie

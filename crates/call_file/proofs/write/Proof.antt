@@ -11,7 +11,7 @@ use Rattle.table.specs.RowFile.{file_bytes, write_w}
 use Rattle.table.specs.Replies.{Reply, reply, Accepted}
 use Rattle.table.specs.Calls.{write_reply}
 use Rattle.check_numbers.specs.Passed.{Good, write_passed}
-use Rattle.table.specs.CallLaws.{refused_leaves, accepted_leaves}
+use Rattle.table.proofs.CallLaws.{refused_leaves, accepted_leaves}
 use Rattle.call_file.specs.WriteLaws.{file_long, records_room, file_left_lem}
 use Rattle.call_file.proofs.write.Statement.{statement}
 use Rattle.call_file.proofs.write.Tie as tie

@@ -10,7 +10,7 @@ use lib.Dec.{eqb}
 use lib.ListN.{get_or}
 use Rattle.lists.specs.Lists.{first_of}
 use Rattle.lists.specs.ListLaws.{search_start, search_next, search_hit, search_end}
-use Rattle.table.specs.WordLaws.{place_below}
+use Rattle.table.proofs.WordLaws.{place_below}
 use Rattle.field_fractions.specs.Fraction.{denominator}
 use Rattle.call_fractions.specs.FractionCall.{first_without_of}
 use Rattle.call_fractions.proofs.first_without.Statement.{statement}

@@ -6,7 +6,7 @@ use Rattle.table.specs.Replies.{reply}
 use Rattle.check_numbers.specs.Replied.{replied}
 use Rattle.check_numbers.specs.CheckLaws.{reply_is}
 use Rattle.call_fractions.specs.FractionCall.{first_without_of, numerators_w, denominators_w}
-use Rattle.call_fractions.specs.FractionCallLaws.{Good, Checked, good, stopped, without, within, written_length}
+use Rattle.call_fractions.proofs.FractionCallLaws.{Good, Checked, good, stopped, without, within, written_length}
 use Rattle.call_fractions.proofs.fractions.Statement.{statement}
 use Rattle.call_fractions.proofs.fractions.Tie as tie
 

@@ -11,7 +11,7 @@ use mir.Syntax.{w32}
 use mir.Val.{to_z, of_z}
 use Rattle.lists.specs.Lists.{tabulate}
 use Rattle.lists.specs.Writing.{tabulate_more}
-use Rattle.table.specs.WordLaws.{place_below}
+use Rattle.table.proofs.WordLaws.{place_below}
 use Rattle.field_fractions.specs.Fraction.{numerator, denominator}
 use Rattle.call_fractions.specs.FractionCall.{numerators_w, denominators_w}
 use Rattle.call_fractions.proofs.put_fractions.Statement.{statement}

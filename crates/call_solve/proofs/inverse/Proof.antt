@@ -10,7 +10,7 @@ use Rattle.table.specs.Results.{inverse_w}
 use Rattle.table.specs.Calls.{inverse_earlier, inverse_reply, table_length}
 use Rattle.check_numbers.specs.CheckLaws.{reply_is}
 use Rattle.check_numbers.specs.Passed.{inverse_passed}
-use Rattle.table.specs.CallLaws.{refused_leaves}
+use Rattle.table.proofs.CallLaws.{refused_leaves}
 use Rattle.check_numbers.specs.Replied.{replied}
 use Rattle.call_solve.specs.PivotCall.{PivotCall}
 use Rattle.call_solve.specs.PivotCallLaws.{inverse_call, early_refused, early_clear, pivot_prime, pivot_good, zero_refused, none_answers, none_accepts, inverse_leaves}

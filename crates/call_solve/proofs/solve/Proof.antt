@@ -12,7 +12,7 @@ use Rattle.table.specs.Results.{solve_w, work_w}
 use Rattle.table.specs.Calls.{solve_earlier, solve_reply}
 use Rattle.check_numbers.specs.CheckLaws.{reply_is}
 use Rattle.check_numbers.specs.Passed.{Good, solve_passed}
-use Rattle.table.specs.CallLaws.{refused_leaves}
+use Rattle.table.proofs.CallLaws.{refused_leaves}
 use Rattle.check_numbers.specs.Replied.{replied}
 use Rattle.call_solve.specs.PivotCall.{PivotCall}
 use Rattle.call_solve.specs.PivotCallLaws.{solve_call, early_refused, early_clear, pivot_prime, pivot_good, zero_refused, none_answers, none_accepts, column_reads, solve_leaves}

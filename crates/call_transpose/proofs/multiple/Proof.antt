@@ -12,7 +12,7 @@ use Rattle.table.specs.Results.{multiple_w}
 use Rattle.table.specs.Replies.{Reply, reply, Accepted}
 use Rattle.table.specs.Calls.{multiple_reply, table_length}
 use Rattle.check_numbers.specs.Passed.{Good, multiple_passed}
-use Rattle.table.specs.CallLaws.{refused_leaves, accepted_leaves, written_length}
+use Rattle.table.proofs.CallLaws.{refused_leaves, accepted_leaves, written_length}
 use Rattle.call_transpose.specs.Finish.{multiple_length}
 use Rattle.call_transpose.proofs.multiple.Statement.{statement}
 use Rattle.call_transpose.proofs.multiple.Tie as tie

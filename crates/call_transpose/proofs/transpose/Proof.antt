@@ -10,7 +10,7 @@ use Rattle.table.specs.Results.{transpose_w}
 use Rattle.table.specs.Replies.{Reply, reply, Accepted}
 use Rattle.table.specs.Calls.{transpose_reply, table_length}
 use Rattle.check_numbers.specs.Passed.{Good, transpose_passed}
-use Rattle.table.specs.CallLaws.{refused_leaves, accepted_leaves, written_length}
+use Rattle.table.proofs.CallLaws.{refused_leaves, accepted_leaves, written_length}
 use Rattle.call_transpose.specs.Finish.{transpose_length}
 use Rattle.call_transpose.proofs.transpose.Statement.{statement}
 use Rattle.call_transpose.proofs.transpose.Tie as tie

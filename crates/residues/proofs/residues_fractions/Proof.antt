@@ -2,7 +2,7 @@
 use borrow.Author.Rules.{rules}
 use mathlib.Core.Path.{ap, ◌∙◌}
 use Rattle.table.specs.Replies.{packed}
-use Rattle.call_fractions.specs.FractionPromisesProof.{promises}
+use Rattle.call_fractions.proofs.FractionPromisesProof.{promises}
 use Rattle.residues.proofs.residues_fractions.Statement.{statement}
 use Rattle.residues.proofs.residues_fractions.Tie as tie
 

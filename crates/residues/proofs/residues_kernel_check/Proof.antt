@@ -3,7 +3,7 @@ use borrow.Author.Rules.{rules}
 use mathlib.Core.Path.{ap, ◌∙◌}
 use Rattle.table.specs.Words.{table}
 use Rattle.table.specs.Replies.{packed}
-use Rattle.table_kernel.specs.KernelPromisesProof.{promises}
+use Rattle.table_kernel.proofs.KernelPromisesProof.{promises}
 use Rattle.residues.proofs.residues_kernel_check.Statement.{statement}
 use Rattle.residues.proofs.residues_kernel_check.Tie as tie
 

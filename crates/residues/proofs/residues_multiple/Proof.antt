@@ -3,7 +3,7 @@ use borrow.Author.Rules.{rules}
 use mathlib.Core.Path.{ap, ◌∙◌}
 use Rattle.table.specs.Words.{table}
 use Rattle.table.specs.Replies.{packed}
-use Rattle.table.specs.PackedProof.{replies}
+use Rattle.table.proofs.PackedProof.{replies}
 use Rattle.residues.proofs.residues_multiple.Statement.{statement}
 use Rattle.residues.proofs.residues_multiple.Tie as tie
 

@@ -4,7 +4,7 @@ use mathlib.Core.Path.{ap, ◌∙◌}
 use mathlib.Core.List.{[]}
 use Rattle.table.specs.Words.{table}
 use Rattle.table.specs.Replies.{packed}
-use Rattle.table.specs.PackedProof.{replies}
+use Rattle.table.proofs.PackedProof.{replies}
 use Rattle.residues.proofs.residues_read_file.Statement.{statement}
 use Rattle.residues.proofs.residues_read_file.Tie as tie
 

@@ -9,16 +9,16 @@ use Rattle.field.specs.PrimeTest.{is_prime_of, is_prime_lem, prime_is}
 use Rattle.table.specs.Limits.{standard}
 use Rattle.lists.specs.ListLaws.{clash, or_false}
 use Rattle.table.specs.Words.{Table, Used, WordsBelow, first_bad_of, first_bad_place_of}
-use Rattle.table.specs.WordLaws.{words_below, place_below, place_good}
+use Rattle.table.proofs.WordLaws.{words_below, place_below, place_good}
 use Rattle.table.specs.RowFile.{head_p, head_n, head_r, head_s, file_bytes, file_row_word, ChainWrong, first_broken_of, first_bad_in_file}
-use Rattle.table.specs.RowFileLaws.{chain_none, file_words_below}
+use Rattle.table.proofs.RowFileLaws.{chain_none, file_words_below}
 use Rattle.table.specs.Results.{first_zero_of}
 use Rattle.table.specs.Replies.{Accepted, accept, answer, bad_prime_of, bad_size_of, bad_order, bad_place_of, short}
 use Rattle.table.specs.Calls.{table_length, check_short, check_words_of, size_checks, entry_checks, apply_checks, multiple_checks, pair_checks, solve_checks}
 use Rattle.table.specs.Calls.{inverse_checks, read_checks, entry_reply, matrix_reply, apply_reply, transpose_reply, multiple_reply, sum_reply, product_reply}
 use Rattle.table.specs.Calls.{solve_reply, inverse_reply, write_reply, read_reply}
-use Rattle.table.specs.CallLaws.{both_hold, none_row, accepts_where}
-use Rattle.table.specs.SingularRow.{regular_none, none_regular}
+use Rattle.table.proofs.CallLaws.{both_hold, none_row, accepts_where}
+use Rattle.table.proofs.SingularRow.{regular_none, none_regular}
 use Rattle.table.specs.Undertakings.{Causes, Accepts, Order, GoodNumbers, GoodOrders, GoodTable, GoodPair, GoodFile, NoneSingular}
 
 bools : (a b : Bool) → (not (a && b) ≡ false) ↔ ((a ≡ true) × (b ≡ true))

@@ -6,20 +6,20 @@ use Rattle.algebra.specs.Ring.{Ring}
 use Rattle.algebra.specs.Matrix.{Matrix, Same, sends, times_m, identity, LeastSingular}
 use Rattle.algebra.specs.MatrixLaws.{times_same, sends_times, sends_same, one_inverse, product_inverse, transpose_times, least_same}
 use Rattle.algebra.specs.Generators.{Gens, entry_of, transpose_g}
-use Rattle.algebra.specs.TransposeTable.{transpose_matrix}
-use Rattle.algebra.specs.SingularCorner.{transpose_least}
+use Rattle.algebra.proofs.TransposeTable.{transpose_matrix}
+use Rattle.algebra.proofs.SingularCorner.{transpose_least}
 use Rattle.field.specs.Prime.{Prime}
 use Rattle.field.specs.Residue.{residues, val, val_small, prime_pos, field}
 use Rattle.table.specs.Words.{Table, gap, width, gens, matrix_of, SameColumn}
-use Rattle.table.specs.WordLaws.{width_swap, words_below, place_below}
+use Rattle.table.proofs.WordLaws.{width_swap, words_below, place_below}
 use Rattle.table.specs.Results.{column, first_zero_of}
 use Rattle.table.specs.Replies.{short}
 use Rattle.table.specs.Calls.{table_length, transpose_after, solve_after, transpose_t, inverse_t, product_t}
 use Rattle.table.specs.Undertakings.{Algebra, GoodNumbers, GoodOrders, GoodTable, GoodPair, NoneSingular, Readable, Alike, ProductAccepts}
-use Rattle.table.specs.SingularRow.{regular_none, none_regular, same_first_zero}
-use Rattle.table.specs.AcceptsProof.{accepts, numbers, good}
-use Rattle.table.specs.AlgebraProof.{algebra, at_pivot, solve_open, inverse_open}
-use Rattle.table.specs.UndertakingsProof.{lengths, agrees, written_again}
+use Rattle.table.proofs.SingularRow.{regular_none, none_regular, same_first_zero}
+use Rattle.table.proofs.AcceptsProof.{accepts, numbers, good}
+use Rattle.table.proofs.AlgebraProof.{algebra, at_pivot, solve_open, inverse_open}
+use Rattle.table.proofs.UndertakingsProof.{lengths, agrees, written_again}
 use Rattle.table.specs.Identities.{TransposeAccepts, InverseAccepts, SolveAccepts, HasRoom, Identities}
 
 module _ (P N : ℕ) where

@@ -9,8 +9,8 @@ use Rattle.algebra.specs.Pivot.{Factor}
 use Rattle.algebra.specs.Solve.{solved}
 use Rattle.algebra.specs.Matrix.{sends}
 use Rattle.algebra.specs.Generators.{Gens, fs, pivots, vs, ys, entry_of, ahead, behind, solved_g}
-use Rattle.algebra.specs.Rows.{table_of, row_of, map_of, word_map, row_map, col_map, sends_run}
-use Rattle.algebra.specs.InverseTable.{is_factor, all_pivots, f_start}
+use Rattle.algebra.proofs.Rows.{table_of, row_of, map_of, word_map, row_map, col_map, sends_run}
+use Rattle.algebra.proofs.InverseTable.{is_factor, all_pivots, f_start}
 
 module _ {K : Ring} (F : Field K) (r s : ℕ → ℕ) (c : ℕ → Gens K) (N : ℕ) (ok : (k : ℕ) → k < N → pivots r s c k ≢ K.zero) where
   pub factors : (k : ℕ) → k < N → Factor (table_of r s c k) (word_map (pivots r s c k)) (row_map (s (suc k)) (vs r s c k)) (col_map (ys r s c k))

@@ -13,9 +13,9 @@ use Rattle.algebra.specs.Coord.{self, vecs, cols, ray, two_ray, ray_zero}
 use Rattle.algebra.specs.Singular.{sent_to_zeros}
 use Rattle.algebra.specs.Matrix.{column_of, sends}
 use Rattle.algebra.specs.Generators.{Gens, pick, fs, pivots, vs, ys, entry_of, kernel_from, kernel_behind, kernel_g}
-use Rattle.algebra.specs.Rows.{table_of, row_of, map_of, word_map, row_map, col_map, sends_run}
-use Rattle.algebra.specs.InverseTable.{f_start, one_to_one}
-use Rattle.algebra.specs.SolveTable.{factors}
+use Rattle.algebra.proofs.Rows.{table_of, row_of, map_of, word_map, row_map, col_map, sends_run}
+use Rattle.algebra.proofs.InverseTable.{f_start, one_to_one}
+use Rattle.algebra.proofs.SolveTable.{factors}
 
 -- The column's own laws, for the zero pivot at row n.
 module _ {K : Ring} (r s : ℕ → ℕ) (c : ℕ → Gens K) (n : ℕ) where

@@ -10,8 +10,8 @@ use Rattle.std.proofs.Math.ListN.{get_or, drop, length-append, get_or-append}
 use Rattle.std.proofs.Math.Seq.{get_or-append-add}
 use Rattle.algebra.specs.Matrix.{Same, sends}
 use Rattle.algebra.specs.Generators.{Gens, vs}
-use Rattle.algebra.specs.SumTable.{multiple_matrix}
-use Rattle.algebra.specs.TransposeTable.{transpose_matrix}
+use Rattle.algebra.proofs.SumTable.{multiple_matrix}
+use Rattle.algebra.proofs.TransposeTable.{transpose_matrix}
 use Rattle.algebra.specs.MatrixLaws.{sends_same}
 use Rattle.algebra.specs.Kinds.{Kind}
 use Rattle.field.specs.Residue.{residues, res, val, val_below, prime_pos}
@@ -20,13 +20,13 @@ use Rattle.lists.specs.Lists.{tabulate, rows_of, first_of}
 use Rattle.lists.specs.ListLaws.{get_d_here, get_d_tabulate, length_tabulate, length_rows, get_d_rows_more, tabulate_same, same_first}
 use Rattle.table.specs.Words.{Table, table, with_words, gap, width, place, gens, matrix_of, row_gens, table_words, bad_row_of, first_bad_of, first_bad_place_of, Used}
 use Rattle.table.specs.Words.{SameUsed, SameColumn}
-use Rattle.table.specs.WordLaws.{width_swap, idle_unused, place_lt, room, written, written_unused, written_good, length_table}
-use Rattle.table.specs.WordLaws.{gens_same, first_bad_same, matrix_same, row_same, bad_same, bad_first, bad_none}
-use Rattle.table.specs.WordLaws.{place_first, place_none, place_good, place_same}
+use Rattle.table.proofs.WordLaws.{width_swap, idle_unused, place_lt, room, written, written_unused, written_good, length_table}
+use Rattle.table.proofs.WordLaws.{gens_same, first_bad_same, matrix_same, row_same, bad_same, bad_first, bad_none}
+use Rattle.table.proofs.WordLaws.{place_first, place_none, place_good, place_same}
 use Rattle.table.specs.RowFile.{file_bytes, bytes_of, prime_of, head_p, head_n, head_r, head_s, file_word, record_at_of, met, broken, first_broken_of, file_row_word}
 use Rattle.table.specs.RowFile.{file_gens, first_bad_in_file, file_words_of, words_of_file, read_w, write_w}
-use Rattle.table.specs.RowFileLaws.{chain_first, chain_none, is_right, right_met, right_end, file_bad_first, file_bad_none, below_tabulate, below_rows}
-use Rattle.table.specs.FileLaws.{left_length, writes_file, reads_back, read_length, read_chain, reads_file}
+use Rattle.table.proofs.RowFileLaws.{chain_first, chain_none, is_right, right_met, right_end, file_bad_first, file_bad_none, below_tabulate, below_rows}
+use Rattle.table.proofs.FileLaws.{left_length, writes_file, reads_back, read_length, read_chain, reads_file}
 use Rattle.table.specs.Results.{column, entry_w, matrix_w, apply_w, apply_transposed_w, sum_w, product_w, inverse_w, solve_w, work_w, multiple_w, transpose_w}
 use Rattle.table.specs.Results.{first_zero_of, pivot_w}
 use Rattle.table.specs.Replies.{Reply, Accepted, accept, after, short}
@@ -34,10 +34,10 @@ use Rattle.table.specs.Calls.{table_length, entry_checks, entry_reply, matrix_ch
 use Rattle.table.specs.Calls.{apply_transposed_after, transpose_checks, transpose_reply, transpose_after, multiple_checks, multiple_reply, multiple_after}
 use Rattle.table.specs.Calls.{pair_checks, sum_reply, sum_after, product_reply, product_after, solve_checks, solve_reply, solve_after, work_after_of, inverse_checks}
 use Rattle.table.specs.Calls.{inverse_reply, inverse_after, write_checks, write_reply, write_after, read_checks, read_reply, read_after, transpose_t, multiple_t}
-use Rattle.table.specs.CallLaws.{given, refused_by, open_checks, value_is, kept, after_is, after_length, surplus}
-use Rattle.table.specs.AcceptsProof.{causes, accepts, read_accepts, order}
-use Rattle.table.specs.AlgebraProof.{applied_word, solved_column, algebra}
-use Rattle.table.specs.PackedProof.{replies}
+use Rattle.table.proofs.CallLaws.{given, refused_by, open_checks, value_is, kept, after_is, after_length, surplus}
+use Rattle.table.proofs.AcceptsProof.{causes, accepts, read_accepts, order}
+use Rattle.table.proofs.AlgebraProof.{applied_word, solved_column, algebra}
+use Rattle.table.proofs.PackedProof.{replies}
 use Rattle.table.specs.Undertakings.{First, Second, Third, Refused, Lengths, Keeps, Untouched, Values, Agrees, Uninfluenced, UnusedInfluenceNothing}
 use Rattle.table.specs.Undertakings.{ColumnSurplus, SurplusInfluencesNothing, Readable, WrittenAgain, SameFile, FileUnusedInfluenceNothing, Permuted}
 use Rattle.table.specs.Undertakings.{PermutedReadsSame}

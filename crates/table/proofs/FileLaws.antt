@@ -7,15 +7,15 @@ use mathlib.Core.List.{List, ◌++◌}
 use Rattle.algebra.specs.Kinds.{Kind}
 use Rattle.field.specs.Residue.{val, prime_pos, val_small}
 use Rattle.table.specs.Words.{Table, table, width, Used, table_word, gens, matrix_of, table_words}
-use Rattle.table.specs.WordLaws.{clean, table_at, table_used, row_unused, gen_used, room, written, written_unused, written_good, length_table}
-use Rattle.table.specs.WordLaws.{words_below}
+use Rattle.table.proofs.WordLaws.{clean, table_at, table_used, row_unused, gen_used, room, written, written_unused, written_good, length_table}
+use Rattle.table.proofs.WordLaws.{words_below}
 use Rattle.table.specs.RowFile.{file_bytes, head_p, head_n, head_r, head_s, first_broken_of, file_row_word, file_gens, file_matrix, words_of_file, read_w, write_w}
-use Rattle.table.specs.RowFileLaws.{bytes_below, word_is, met_is, met_end, file_row, head_P, head_N, head_R, head_S, file_length, chain_none, chain_right}
-use Rattle.table.specs.RowFileLaws.{file_words_below, words_right, file_reads_back}
+use Rattle.table.proofs.RowFileLaws.{bytes_below, word_is, met_is, met_end, file_row, head_P, head_N, head_R, head_S, file_length, chain_none, chain_right}
+use Rattle.table.proofs.RowFileLaws.{file_words_below, words_right, file_reads_back}
 use Rattle.table.specs.Replies.{Reply, Accepted, accept}
 use Rattle.table.specs.Calls.{table_length, read_checks, write_reply, read_reply, read_after, read_t}
-use Rattle.table.specs.CallLaws.{value_is, after_is}
-use Rattle.table.specs.AcceptsProof.{accepts, read_accepts}
+use Rattle.table.proofs.CallLaws.{value_is, after_is}
+use Rattle.table.proofs.AcceptsProof.{accepts, read_accepts}
 use Rattle.table.specs.Undertakings.{GoodNumbers, GoodTable, GoodFile, file_left, Writes, ReadsBack, ReadsFile}
 
 module _ (P N : ℕ) (A : Table) (f : List ℕ) (ok : Accepted (write_reply P N A f)) where

@@ -12,12 +12,12 @@ use Rattle.algebra.specs.Entry.{unit, U_run, entry, same}
 use Rattle.algebra.specs.Coord.{self, vecs, cols, ray, two_ray}
 use Rattle.algebra.specs.RingLaws.{mul_one}
 use Rattle.algebra.specs.SumLaws.{dot_scale}
-use Rattle.algebra.specs.Join.{glue, cols_join, glue_ray}
+use Rattle.algebra.proofs.Join.{glue, cols_join, glue_ray}
 use Rattle.algebra.specs.Carry.{Carry, carry_entry}
 use Rattle.algebra.specs.Matrix.{column_of, plus_m, Same}
 use Rattle.algebra.specs.Generators.{Gens, pick, multiple_g, below, above, entry_of, sums_g}
-use Rattle.algebra.specs.Rows.{table_of, row_of, map_of, entry_is}
-use Rattle.algebra.specs.ProductTable.{corner}
+use Rattle.algebra.proofs.Rows.{table_of, row_of, map_of, entry_is}
+use Rattle.algebra.proofs.ProductTable.{corner}
 
 module _ {K : Ring} {I O L1 U1 L2 U2 : Mod K} where
   abbrev sum_row_of : Row I O L1 U1 → Row I O L2 U2 → Row I O (pair L1 L2) (pair U1 U2)

@@ -18,16 +18,16 @@ use Rattle.lists.specs.Lists.{tabulate, over}
 use Rattle.lists.specs.ListLaws.{clash, length_tabulate, get_d_here, tabulate_same}
 use Rattle.table.specs.Limits.{up_to, most_prime, most_order}
 use Rattle.table.specs.Words.{Table, with_words, first_bad_of, first_bad_place_of, matrix_of, SameColumn}
-use Rattle.table.specs.WordLaws.{words_below, place_below, place_good, place_same, first_bad_same, matrix_same}
+use Rattle.table.proofs.WordLaws.{words_below, place_below, place_good, place_same, first_bad_same, matrix_same}
 use Rattle.table.specs.Replies.{Reply, Check, Accepted, NoFault, cause_at, check, accept, refuse, answer, after, short}
 use Rattle.table.specs.Results.{column}
 use Rattle.table.specs.Calls.{table_length, solve_reply, solve_after}
-use Rattle.table.specs.CallLaws.{AllClear, lacks, none_gave, all_clear, value_is, kept, surplus, after_is, after_length, answer_append, open_checks, none_row}
-use Rattle.table.specs.AcceptsProof.{causes as bad_causes}
-use Rattle.table.specs.PackedProof.{Fits, AllFit, fit_nil, fit_cons, parts, plain, zero_fits, fits_sizes, short_fits, words_fit, column_fits}
-use Rattle.table.specs.UndertakingsProof.{first, second, third}
+use Rattle.table.proofs.CallLaws.{AllClear, lacks, none_gave, all_clear, value_is, kept, surplus, after_is, after_length, answer_append, open_checks, none_row}
+use Rattle.table.proofs.AcceptsProof.{causes as bad_causes}
+use Rattle.table.proofs.PackedProof.{Fits, AllFit, fit_nil, fit_cons, parts, plain, zero_fits, fits_sizes, short_fits, words_fit, column_fits}
+use Rattle.table.proofs.UndertakingsProof.{first, second, third}
 use Rattle.algebra_elimination.specs.Elimination.{nonsingular, solution}
-use Rattle.algebra_elimination.specs.EliminationLaws.{solution_solves, solution_only, nonsingular_exactly}
+use Rattle.algebra_elimination.proofs.EliminationLaws.{solution_solves, solution_only, nonsingular_exactly}
 use Rattle.table_dense.specs.DenseCall.{nonsingular_w, dense_w, dense_earlier, dense_checks, dense_reply, dense_after, square_after_of}
 use Rattle.table_dense.specs.DensePromises.{GoodSystem, WholeSingular, DenseCauses, DensePromises, DenseUnused}
 

@@ -9,14 +9,14 @@ use Rattle.algebra.specs.Sums.{join}
 use Rattle.algebra.specs.Linear.{Mod, Hom, comp, same_map}
 use Rattle.algebra.specs.Coord.{self, vecs, cols, ray, two_cols, two_ray, cols_zero}
 use Rattle.algebra.specs.RingLaws.{mul_one}
-use Rattle.algebra.specs.Join.{join_one, glue, cols_join, glue_ray, block}
+use Rattle.algebra.proofs.Join.{join_one, glue, cols_join, glue_ray, block}
 use Rattle.algebra.specs.Totals.{total_ext}
 use Rattle.algebra.specs.Product.{product_entry}
 use Rattle.algebra.specs.Product.{prod_row}
 use Rattle.algebra.specs.Carry.{Carry, carry_entry}
 use Rattle.algebra.specs.Matrix.{column_of, times_m, Same}
 use Rattle.algebra.specs.Generators.{Gens, product_g, products_g, x_states, y_states, entry_of}
-use Rattle.algebra.specs.Rows.{table_of, row_of, map_of, entry_is}
+use Rattle.algebra.proofs.Rows.{table_of, row_of, map_of, entry_is}
 
 -- the block of `corners`, by its columns, times two columns one above the other
 pub corner : (K : Ring) (n m1 m2 : ℕ) (u : ℕ → (vecs K).car) (A : Mod K) (f : Hom A (vecs K)) (e : ℕ → A.car) (v : ℕ → (vecs K).car)

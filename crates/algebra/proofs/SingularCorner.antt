@@ -7,9 +7,9 @@ use Rattle.algebra.specs.Ring.{Ring, Field}
 use Rattle.algebra.specs.SumLaws.{dot_zeros}
 use Rattle.algebra.specs.Matrix.{Singular, LeastSingular}
 use Rattle.algebra.specs.Generators.{Gens, entry_of, transpose_g, pivots, kernel_g}
-use Rattle.algebra.specs.TransposeTable.{transpose_pivots}
-use Rattle.algebra.specs.InverseTable.{one_to_one}
-use Rattle.algebra.specs.KernelTable.{kernel_last, kernel_sent}
+use Rattle.algebra.proofs.TransposeTable.{transpose_pivots}
+use Rattle.algebra.proofs.InverseTable.{one_to_one}
+use Rattle.algebra.proofs.KernelTable.{kernel_last, kernel_sent}
 
 -- the pivots of the first n rows are not zero; and row k has the first zero pivot
 abbrev pub Regular : {K : Ring} → (ℕ → ℕ) → (ℕ → ℕ) → (ℕ → Gens K) → ℕ → Type 0

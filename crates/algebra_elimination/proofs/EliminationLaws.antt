@@ -12,8 +12,8 @@ use Rattle.algebra.specs.Matrix.{Matrix, sends, Singular}
 use Rattle.algebra.specs.Generators.{pick}
 use Rattle.lists.specs.ListLaws.{clash}
 use Rattle.algebra_elimination.specs.Elimination.{exchange, before, nonzero, pivot_row_of, lowered, reduced, pivoted, nonsingular, substituted, solution}
-use Rattle.algebra_elimination.specs.ExchangeLaws.{exchange_twice, nonzero_true, row_below, no_pivot}
-use Rattle.algebra_elimination.specs.StepLaws.{sum_first, step_there, step_back}
+use Rattle.algebra_elimination.proofs.ExchangeLaws.{exchange_twice, nonzero_true, row_below, no_pivot}
+use Rattle.algebra_elimination.proofs.StepLaws.{sum_first, step_there, step_back}
 
 and_true : (a b : Bool) → (a && b) ≡ true → (a ≡ true) × (b ≡ true)
 and_true true b e = (refl, e)

@@ -21,7 +21,7 @@ use Rattle.table.specs.Words.{Table, Room, Used, used, full, kinds, block_size, 
 use Rattle.table.specs.Words.{table_word}
 use Rattle.table.specs.RowFile.{file_word, byte_of, bytes_of, file_bytes, head_p, head_n, head_r, head_s, record_at_of, met, file_row_word, file_gens, read_w, words_of_file}
 use Rattle.table.specs.RowFile.{write_w, broken, first_broken_of, first_bad_in_file, ChainWrong, HasBadInFile}
-use Rattle.table.specs.WordLaws.{row_length, row_same, row_again, rows_first, rows_none, rows_below, place_lt, room}
+use Rattle.table.proofs.WordLaws.{row_length, row_same, row_again, rows_first, rows_none, rows_below, place_lt, room}
 
 -- The meaning of the refusals of a file: the first row where its chain is wrong, and the first with a word that is P or more.
 module _ (f : List ℕ) where

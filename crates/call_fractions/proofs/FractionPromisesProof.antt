@@ -12,14 +12,14 @@ use Rattle.algebra.specs.Generators.{pick}
 use Rattle.lists.specs.ListLaws.{or_false, length_tabulate, get_d_front, tabulate_same, first_with, none_with, first_le, same_first}
 use Rattle.table.specs.Limits.{standard}
 use Rattle.table.specs.Words.{first_bad_place_of, SameColumn}
-use Rattle.table.specs.WordLaws.{place_below, place_good, place_le, place_same}
+use Rattle.table.proofs.WordLaws.{place_below, place_good, place_le, place_same}
 use Rattle.table.specs.Replies.{Reply, Check, check, Accepted, NoFault, cause_at, accept, refuse, answer, after, short, bad_prime_of, bad_size_of}
 use Rattle.table.specs.Calls.{check_short}
-use Rattle.table.specs.CallLaws.{AllClear, other_number, passed, open_checks, all_clear, value_is, answer_append, none_row}
-use Rattle.table.specs.CallLaws.{kept, after_is, surplus, after_length}
+use Rattle.table.proofs.CallLaws.{AllClear, other_number, passed, open_checks, all_clear, value_is, answer_append, none_row}
+use Rattle.table.proofs.CallLaws.{kept, after_is, surplus, after_length}
 use Rattle.table.specs.Undertakings.{GoodColumn}
-use Rattle.table.specs.AcceptsProof.{causes as bad_causes}
-use Rattle.table.specs.PackedProof.{Fits, AllFit, fit_nil, fit_cons, parts, fits_answer, plain, zero_fits, size_is}
+use Rattle.table.proofs.AcceptsProof.{causes as bad_causes}
+use Rattle.table.proofs.PackedProof.{Fits, AllFit, fit_nil, fit_cons, parts, fits_answer, plain, zero_fits, size_is}
 use Rattle.field_fractions.specs.Fraction.{Fraction, numerator, denominator}
 use Rattle.field_fractions.specs.FractionLaws.{bound_square, bound_most, bound_word, unique}
 use Rattle.field_fractions.specs.SearchLaws.{none, found, none_found}

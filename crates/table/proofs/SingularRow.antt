@@ -8,7 +8,7 @@ use borrow.Author.Tests.{eqb-true, eqb-false, eq-eqb, ne_eqb}
 use Rattle.algebra.specs.Ring.{Ring}
 use Rattle.algebra.specs.Matrix.{Singular, LeastSingular}
 use Rattle.algebra.specs.Generators.{pivots}
-use Rattle.algebra.specs.SingularCorner as Corner
+use Rattle.algebra.proofs.SingularCorner as Corner
 use Rattle.field.specs.Prime.{Prime}
 use Rattle.field.specs.Residue.{residues, val, val_inj, field, prime_pos}
 use Rattle.field.specs.Bridge.{val_zero}

@@ -11,13 +11,13 @@ use Rattle.field.specs.Residue.{val_below, prime_pos}
 use Rattle.table.specs.Limits.{Limits, standard}
 use Rattle.lists.specs.ListLaws.{first_le}
 use Rattle.table.specs.Words.{Table, bad_row_of, first_bad_of, first_bad_place_of, matrix_of}
-use Rattle.table.specs.WordLaws.{bad_le, place_le}
+use Rattle.table.proofs.WordLaws.{bad_le, place_le}
 use Rattle.table.specs.Results.{first_zero_of, pivot_w, entry_w}
 use Rattle.table.specs.RowFile.{head_p, head_n, head_r, head_s, file_row_word, broken, first_broken_of, first_bad_in_file}
 use Rattle.table.specs.Replies.{Reply, Check, answer, accept, refuse, cause_at, refusal_at, FirstFault, NoFault, bad_size_of}
 use Rattle.table.specs.Calls.{size_checks, entry_checks, pair_checks, read_checks, entry_reply, matrix_reply, apply_reply, transpose_reply, multiple_reply}
 use Rattle.table.specs.Calls.{sum_reply, product_reply, solve_reply, inverse_reply, write_reply, read_reply}
-use Rattle.table.specs.CallLaws.{both_hold, good_prime}
+use Rattle.table.proofs.CallLaws.{both_hold, good_prime}
 use Rattle.table.specs.Undertakings.{Packed, PackedReplies}
 
 -- each part has room

@@ -15,15 +15,15 @@ use Rattle.algebra.specs.Entry.{send, run, same, entry, entries}
 use Rattle.algebra.specs.Chain as Chain
 use Rattle.algebra.specs.Product.{product, table}
 use Rattle.algebra.specs.Pivot.{Pivot, solve, invert}
-use Rattle.algebra.specs.Agree.{entries_agree, corner_agrees}
-use Rattle.algebra.specs.ApplyTable.{swept}
-use Rattle.algebra.specs.ProductTable.{product_matrix}
-use Rattle.algebra.specs.SumTable.{sum_matrix, multiple_matrix}
-use Rattle.algebra.specs.TransposeTable.{transpose_matrix, transpose_pivots}
-use Rattle.algebra.specs.InverseTable.{table_inverse, inverse_table, one_to_one}
-use Rattle.algebra.specs.SolveTable.{solution}
-use Rattle.algebra.specs.KernelTable.{kernel_last, kernel_sent, kernel_only}
-use Rattle.algebra.specs.SingularCorner.{Regular, FirstZero, regular_corner, corners_regular, least_singular, singular_first, transpose_least}
+use Rattle.algebra.proofs.Agree.{entries_agree, corner_agrees}
+use Rattle.algebra.proofs.ApplyTable.{swept}
+use Rattle.algebra.proofs.ProductTable.{product_matrix}
+use Rattle.algebra.proofs.SumTable.{sum_matrix, multiple_matrix}
+use Rattle.algebra.proofs.TransposeTable.{transpose_matrix, transpose_pivots}
+use Rattle.algebra.proofs.InverseTable.{table_inverse, inverse_table, one_to_one}
+use Rattle.algebra.proofs.SolveTable.{solution}
+use Rattle.algebra.proofs.KernelTable.{kernel_last, kernel_sent, kernel_only}
+use Rattle.algebra.proofs.SingularCorner.{Regular, FirstZero, regular_corner, corners_regular, least_singular, singular_first, transpose_least}
 
 -- I. Over maps between any modules: I and O hold the words of columns, L and U the lower and the upper states. A row is seven maps, a run of N rows is
 -- an input x, an output y and a state at every gap, bound by the three equations of each row (Run.antt).

@@ -8,27 +8,27 @@ use Rattle.algebra.specs.Ring.{Ring}
 use Rattle.algebra.specs.Matrix.{Matrix, sends, Singular}
 use Rattle.algebra.specs.MatrixLaws.{sends_same}
 use Rattle.algebra.specs.Generators.{pick, kernel_g}
-use Rattle.algebra.specs.SingularCorner as Corner
-use Rattle.algebra.specs.SweepTheory.{kernel_shows, kernel_unique}
+use Rattle.algebra.proofs.SingularCorner as Corner
+use Rattle.algebra.proofs.SweepTheory.{kernel_shows, kernel_unique}
 use Rattle.field.specs.Prime.{Prime}
 use Rattle.field.specs.Residue.{residues, res, val, res_val, res_one, val_small, val_below, field, prime_pos}
 use Rattle.lists.specs.Lists.{tabulate}
 use Rattle.lists.specs.ListLaws.{length_tabulate, get_d_here, first_le}
 use Rattle.table.specs.Limits.{standard, most_prime, most_size, most_order}
 use Rattle.table.specs.Words.{Table, gap, gens, matrix_of, first_bad_of, SameColumn}
-use Rattle.table.specs.WordLaws.{words_below}
+use Rattle.table.proofs.WordLaws.{words_below}
 use Rattle.table.specs.Results.{column, column_words, first_zero_of}
 use Rattle.table.specs.Replies.{Reply, Check, Accepted, NoFault, cause_at, check, accept, refuse, answer, bad_prime_of, bad_size_of, bad_order, short}
 use Rattle.table.specs.Calls.{table_length, solve_earlier, solve_reply, inverse_earlier, inverse_reply, check_pivots}
-use Rattle.table.specs.CallLaws.{AllClear, lacks, number_is, none_gave, all_clear, value_is, kept, surplus, after_is, after_length, answer_append, open_checks}
-use Rattle.table.specs.CallLaws.{none_row}
-use Rattle.table.specs.SingularRow.{least_singular, singular_first, regular_none, none_regular}
-use Rattle.table.specs.AcceptsProof.{causes as bad_causes}
-use Rattle.table.specs.PackedProof.{Fits, fit_nil, fit_cons, parts, plain, fits_sizes, short_fits, words_fit}
-use Rattle.table.specs.UndertakingsProof.{first, third}
+use Rattle.table.proofs.CallLaws.{AllClear, lacks, number_is, none_gave, all_clear, value_is, kept, surplus, after_is, after_length, answer_append, open_checks}
+use Rattle.table.proofs.CallLaws.{none_row}
+use Rattle.table.proofs.SingularRow.{least_singular, singular_first, regular_none, none_regular}
+use Rattle.table.proofs.AcceptsProof.{causes as bad_causes}
+use Rattle.table.proofs.PackedProof.{Fits, fit_nil, fit_cons, parts, plain, fits_sizes, short_fits, words_fit}
+use Rattle.table.proofs.UndertakingsProof.{first, third}
 use Rattle.table.specs.Undertakings.{GoodNumbers, GoodTable, NoneSingular}
 use Rattle.table_dense.specs.DenseCall.{dense_reply}
-use Rattle.table_dense.specs.DensePromisesProof.{promises as dense_promises}
+use Rattle.table_dense.proofs.DensePromisesProof.{promises as dense_promises}
 use Rattle.table_kernel.specs.KernelCall.{kernel_w, kernel_earlier, kernel_checks, kernel_reply, kernel_after}
 use Rattle.table_kernel.specs.KernelPromises.{ZeroPivotAt, SentToZeros, Shows, GoodLoan, KernelCauses, KernelPromises, ZeroPivotSwept}
 

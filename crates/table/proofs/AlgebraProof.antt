@@ -7,24 +7,24 @@ use Prim.Native.Nat.{ℕ, zero, suc, ◌+◌, ◌<◌, ◌≤◌}
 use Rattle.std.proofs.Math.ListN.{get_or}
 use Rattle.algebra.specs.Matrix.{Matrix, Same, sends, plus_m, times_m, identity, Singular, LeastSingular}
 use Rattle.algebra.specs.Generators.{pick, entry_of, inverses_g, solved_g, products_g, sums_g}
-use Rattle.algebra.specs.InverseTable.{table_inverse, inverse_table, one_to_one}
-use Rattle.algebra.specs.SolveTable.{solution}
-use Rattle.algebra.specs.ProductTable.{product_matrix}
-use Rattle.algebra.specs.SumTable.{sum_matrix}
+use Rattle.algebra.proofs.InverseTable.{table_inverse, inverse_table, one_to_one}
+use Rattle.algebra.proofs.SolveTable.{solution}
+use Rattle.algebra.proofs.ProductTable.{product_matrix}
+use Rattle.algebra.proofs.SumTable.{sum_matrix}
 use Rattle.algebra.specs.MatrixLaws.{times_assoc, times_plus_lem, plus_times, times_same, sends_times, sends_same}
 use Rattle.field.specs.Prime.{Prime}
 use Rattle.field.specs.Residue.{residues, res, val, res_val, val_small, prime_pos, field}
 use Rattle.table.specs.Limits.{standard}
 use Rattle.lists.specs.ListLaws.{get_d_here}
 use Rattle.table.specs.Words.{Table, table, with_words, outer, gap, gens, matrix_of, SameColumn}
-use Rattle.table.specs.WordLaws.{written}
+use Rattle.table.proofs.WordLaws.{written}
 use Rattle.table.specs.Results.{column, apply_w, sum_w, product_w, inverse_w, solve_w, first_zero_of}
 use Rattle.table.specs.Replies.{Reply, Accepted, accept, refuse, answer, NoFault}
 use Rattle.table.specs.Calls.{check_pivots, apply_reply, apply_after, sum_reply, product_reply, solve_reply, solve_after, inverse_reply, solve_earlier}
 use Rattle.table.specs.Calls.{inverse_earlier, inverse_t, sum_t, product_t}
-use Rattle.table.specs.CallLaws.{open_checks, answer_append, good_prime, after_is}
-use Rattle.table.specs.AcceptsProof.{accepts}
-use Rattle.table.specs.SingularRow.{least_singular, singular_first, regular, regular_none, none_regular}
+use Rattle.table.proofs.CallLaws.{open_checks, answer_append, good_prime, after_is}
+use Rattle.table.proofs.AcceptsProof.{accepts}
+use Rattle.table.proofs.SingularRow.{least_singular, singular_first, regular, regular_none, none_regular}
 use Rattle.table.specs.Groupings.{Grouping, factor, cut, first_factor, other_factors, grouped, AllAccept}
 use Rattle.table.specs.Undertakings.{Algebra}
 

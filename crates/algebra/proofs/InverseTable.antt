@@ -14,7 +14,7 @@ use Rattle.algebra.specs.Matrix.{column_of, sends, times_m, identity, Same}
 use Rattle.algebra.specs.Generators.{Gens, pivot_g, v_g, y_g, f_g, e_g, z_g, inverse_g, fs, pivots, vs, ys, zs, inverses_g, entry_of}
 use Rattle.algebra.specs.Entry.{unit, U_run, same, run_out}
 use Rattle.algebra.specs.Pivot.{solve, invert}
-use Rattle.algebra.specs.Rows.{table_of, entry_is, run_sends, sends_run, row_of, map_of, word_map, row_map, col_map}
+use Rattle.algebra.proofs.Rows.{table_of, entry_is, run_sends, sends_run, row_of, map_of, word_map, row_map, col_map}
 
 -- x − a − b − c + (a + (b + c)) is x
 sub3 : {K : Ring} (A : Mod K) (x a b c : A.car)

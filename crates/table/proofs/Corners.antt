@@ -6,10 +6,10 @@ use Prim.Native.Nat.{ℕ, suc, ◌<◌, ◌≤◌}
 use Rattle.std.proofs.Math.Decide.{ℕ_discrete}
 use Rattle.algebra.specs.Matrix.{Same}
 use Rattle.algebra.specs.Kinds.{Kind, d_word, p_row, a_block, q_column, g_row, b_block, h_column}
-use Rattle.algebra.specs.Agree.{entries_agree, corner_agrees}
+use Rattle.algebra.proofs.Agree.{entries_agree, corner_agrees}
 use Rattle.field.specs.Residue.{residues}
 use Rattle.table.specs.Words.{Table, gap, Used, table_word, gens, matrix_of, first_bad_of}
-use Rattle.table.specs.WordLaws.{gap_full, gap_last, gen_used, words_below}
+use Rattle.table.proofs.WordLaws.{gap_full, gap_last, gen_used, words_below}
 
 -- an order of the corner is that of the table, or 0 at the corner's end
 gap_more : (k N r m : ℕ) → k ≤ N → m ≤ k → gap k r m ≤ gap N r m

@@ -1,0 +1,3 @@
+pub mod ExchangeLaws
+pub mod StepLaws
+pub mod EliminationLaws

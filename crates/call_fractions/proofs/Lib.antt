@@ -1,0 +1,3 @@
+pub mod FractionCallLaws
+pub mod FractionPromisesProof
+pub mod FractionExamples

@@ -1,0 +1,12 @@
+pub mod WordLaws
+pub mod CallLaws
+pub mod SingularRow
+pub mod Corners
+pub mod RowFileLaws
+pub mod FileLaws
+pub mod AcceptsProof
+pub mod AlgebraProof
+pub mod PackedProof
+pub mod UndertakingsProof
+pub mod IdentitiesProof
+pub mod ListerLaws

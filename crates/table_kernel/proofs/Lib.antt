@@ -1,0 +1,3 @@
+pub mod KernelProof
+pub mod KernelPromisesProof
+pub mod KernelExamples
