@@ -17,7 +17,7 @@ pub const MOST_SIZE: u32 = 1024;
 pub const MOST_ORDER: u32 = 8;
 
 // A call's answer: 0 accepted, or the refusal's number; the buffer and the row beside it; the value.
-#[derive(Drop)]
+#[derive(Clone, Copy)]
 pub struct Reply {
     pub number: u32,
     pub buffer: u32,

@@ -5,7 +5,7 @@ ghost use Rattle.std.specs.Prelude.{◌≡◌, ◌<◌, ◌≤◌};
 ghost use Rattle.row_halves.specs.Halves.{orders_at_of, lower_half, upper_half, transposed_half};
 
 // The orders around a row, below the diagonal and above it: lower and upper those of the gap before the row, lower2 and upper2 those of the gap after it.
-#[derive(Drop)]
+#[derive(Clone, Copy)]
 pub struct Orders {
     pub lower: usize,
     pub lower2: usize,
@@ -31,7 +31,7 @@ pub fn orders_at(n: usize, r: usize, s: usize, k: usize) -> Orders
 }
 
 // Where a sweep finds d and the generators of one half, in a row or in a whole table, and their order.
-#[derive(Drop)]
+#[derive(Clone, Copy)]
 pub struct Half {
     pub order: usize,
     pub word: usize,

@@ -1,6 +1,6 @@
 -- What the causes mean, what each call accepts, and the order of its checks.
 use Rattle.std.specs.Prelude.{Bool, true, false, not, ◌&&◌, ◌||◌, ◌↔◌, ◌≡◌, List, [], ◌∷◌, ℕ, ◌*◌, ◌<◌, ◌≤◌, leb, ltb, eqb, length, get_or}
-use Rattle.std.proofs.Math.Logic.{Iff·trans}
+use Rattle.std.proofs.Math.Logic.Iff
 use Rattle.std.proofs.Math.Path.{refl}
 use borrow.Author.Tests.{leb-true, le-leb, leb-false, lt-leb, ltb-false, le-ltb, eqb-true, eq-eqb}
 use Rattle.algebra.specs.Kinds.{Kind}
@@ -63,13 +63,13 @@ orders = causes.order standard.order
 
 module _ (P N : ℕ) where
   pub words : (A : Table) → (ltb 0 (first_bad_of P N A) ≡ false) ↔ WordsBelow P N A
-  words A = Iff·trans (none_row (first_bad_of P N A)) (words_below P N A)
+  words A = Iff.trans (none_row (first_bad_of P N A)) (words_below P N A)
 
   pub places : (x : List ℕ) → (ltb 0 (first_bad_place_of P N x) ≡ false) ↔ ((k : ℕ) → k < N → get_or x k 0 < P)
-  places x = Iff·trans (none_row (first_bad_place_of P N x)) (place_below P N x, place_good P N x)
+  places x = Iff.trans (none_row (first_bad_place_of P N x)) (place_below P N x, place_good P N x)
 
   pub corners : (A : Table) → Prime P → (ltb 0 (first_zero_of P N A) ≡ false) ↔ NoneSingular P N A
-  corners A prime = Iff·trans (none_row (first_zero_of P N A)) (regular_none P N A prime, none_regular P N A prime)
+  corners A prime = Iff.trans (none_row (first_zero_of P N A)) (regular_none P N A prime, none_regular P N A prime)
 
   -- a table by its three checks
   pub good : (A : Table) → bad_order standard.order A.lower A.upper ≡ false → short A.words (table_length N A) ≡ false
@@ -95,11 +95,11 @@ equal a b = (there (eqb a b) refl, λ e. rw (eq-eqb a b e))
     there false q e = clash e
 
 chain : (f : List ℕ) → (ltb 0 (first_broken_of f) ≡ false) ↔ ((k : ℕ) → ChainWrong f k → ⊥)
-chain f = Iff·trans (none_row (first_broken_of f)) (chain_none f)
+chain f = Iff.trans (none_row (first_broken_of f)) (chain_none f)
 
 file_words_lem : (f : List ℕ) → (ltb 0 (first_bad_in_file f) ≡ false) ↔ ((k : ℕ) (κ : Kind) (i j : ℕ) → Used (head_n f) (head_r f) (head_s f) k κ i j
     → file_row_word f k κ i j < head_p f)
-file_words_lem f = Iff·trans (none_row (first_bad_in_file f)) (file_words_below f)
+file_words_lem f = Iff.trans (none_row (first_bad_in_file f)) (file_words_below f)
 
 pub read_accepts : (f d : List ℕ) → Accepted (read_reply f d) ↔ GoodFile f d
 unfolding read_reply
