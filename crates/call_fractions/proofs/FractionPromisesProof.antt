@@ -21,8 +21,8 @@ use Rattle.table.specs.Undertakings.{GoodColumn}
 use Rattle.table.proofs.AcceptsProof.{causes as bad_causes}
 use Rattle.table.proofs.PackedProof.{Fits, AllFit, fit_nil, fit_cons, parts, fits_answer, plain, zero_fits, size_is}
 use Rattle.field_fractions.specs.Fraction.{Fraction, numerator, denominator}
-use Rattle.field_fractions.specs.FractionLaws.{bound_square, bound_most, bound_word, unique}
-use Rattle.field_fractions.specs.SearchLaws.{none, found, none_found}
+use Rattle.field_fractions.proofs.FractionLaws.{bound_square, bound_most, bound_word, unique}
+use Rattle.field_fractions.proofs.SearchLaws.{none, found, none_found}
 use Rattle.call_fractions.specs.FractionCall.{largest_prime, number_checks, length_checks, residue_checks, fraction_check, fractions_earlier, fractions_checks}
 use Rattle.call_fractions.specs.FractionCall.{numerators_w, denominators_w, first_without_of, fractions_reply, numerators_after_of, denominators_after_of}
 use Rattle.call_fractions.specs.FractionPromises.{LargestBound, BoundFits, AtMostOne, HasFraction, AllHave, FirstFailing}
