@@ -28,7 +28,7 @@ loop-j-preserved c = let i = c.loop-j.invariant in (
   omega arith,
   put_more _ _ _ _ _ _ i.1
       (elim c.if-used.branch
-      [ then-used w ↦ word_used _ w.if-used.true (w.2 ∙ w.VALUE-is.ensures) | else-used w ↦ word_unused _ w.if-used.false w.VALUE-is ]) (omega arith),
+      [ then-used w ↦ word_used _ w.if-used.true (w.out-is ∙ w.word.ensures) | else-used w ↦ word_unused _ w.if-used.false w.out-is ]) (omega arith),
   simp length-set i.2,
 )
 

@@ -24,8 +24,9 @@ loop-j-preserved c = let l = c.loop-j in (
   omega arith,
   omega arith,
   bytes_more _ _ _ _ _ _ _ _ l.invariant.2 l.invariant.1
-      (elim c.if-used.branch [ then-used w ↦ word_used _ w.if-used.true w.2 | else-used w ↦ word_unused _ w.if-used.false w.VALUE-is ]) c.put_word.ensures,
-  c.put_word.auto.0 ∙ l.invariant.3,
+      (elim c.if-used.branch [ then-used w ↦ word_used _ w.if-used.true w.put_word-is | else-used w ↦ word_unused _ w.if-used.false w.put_word-is ])
+      c.put_word.ensures,
+  c.put_word.auto.out ∙ l.invariant.3,
 )
 
 pub shape_of-out : goal.shape_of-out
