@@ -1,2 +1,0 @@
-pub mod DensePromisesProof
-pub mod DenseExamples
