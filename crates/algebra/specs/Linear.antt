@@ -1,5 +1,5 @@
 -- Modules over a ring, the maps between them, and the rules for `simp`.
-use Rattle.std.specs.Prelude.{◌≡◌, refl, ℕ, zero}
+use Rattle.std.specs.Prelude.{◌≡◌, refl, ℕ}
 use Rattle.std.proofs.Common.{sym, ◌∙◌, ap}
 use Rattle.algebra.specs.Ring.{Ring}
 use Rattle.algebra.specs.Sums.{fold}

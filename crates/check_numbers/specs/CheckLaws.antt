@@ -1,8 +1,8 @@
 -- Laws that the checks' proofs share.
-use Rattle.std.specs.Prelude.{Bool, true, false, not, ◌≡◌, refl, List, [], ◌∷◌, ◌++◌, ◌⊎◌, ℕ, zero, suc, ◌+◌, ◌-◌, ◌*◌, ◌<◌, ◌≤◌, ltb, leb, eqb, length, get_or, take, drop}
+use Rattle.std.specs.Prelude.{Bool, true, false, not, ◌≡◌, refl, List, [], ◌∷◌, ◌++◌, ◌⊎◌, ℕ, zero, suc, ◌+◌, ◌-◌, ◌*◌, ◌<◌, ◌≤◌, ltb, leb, length, get_or, take, drop}
 use Rattle.std.proofs.Math.Bool.{◌||◌}
 use Rattle.std.proofs.Math.Path.{sym, ap₂, fun_ext}
-use Rattle.std.proofs.Common.{ap, ◌∙◌, inl, inr, le_antisymm, add-zero, add-suc, add_assoc, zero-mul, suc-mul, mul-le-mul, mul-le-mul_right, le_trans, add-one, arith, length-drop, length-take-le, get_or-take, get_or-drop, lt-ltb, le-ltb, le-leb, ne_eqb}
+use Rattle.std.proofs.Common.{ap, ◌∙◌, inl, inr, le_antisymm, add-zero, add-suc, add_assoc, zero-mul, suc-mul, mul-le-mul, mul-le-mul_right, le_trans, add-one, arith, length-drop, length-take-le, get_or-take, get_or-drop, lt-ltb, le-ltb, le-leb}
 use Rattle.std.proofs.Math.Decide.{dec_lt}
 use Rattle.std.proofs.lemmas.Bool.{lt-leb}
 use Rattle.algebra.specs.Generators.{pick}

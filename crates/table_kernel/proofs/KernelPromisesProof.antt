@@ -1,5 +1,5 @@
 -- The kernel call's check: the proofs; and both calls' promises together.
-use Rattle.std.specs.Prelude.{Bool, ◌&&◌, List, [], ◌∷◌, ◌++◌, ◌↔◌, ◌⊎◌, ◌≡◌, ℕ, ◌+◌, ◌-◌, ◌<◌, ◌≤◌, length, get_or, take, drop}
+use Rattle.std.specs.Prelude.{Bool, ◌&&◌, List, ◌↔◌, ◌⊎◌, ◌≡◌, ℕ, ◌+◌, ◌-◌, ◌<◌, ◌≤◌, length, get_or, take, drop}
 use Rattle.std.proofs.Math.Bool.{true, false, not}
 use Rattle.std.proofs.Common.{inl, inr, ◌∙◌, get_or-drop}
 use Rattle.std.proofs.Math.Path.{refl, sym, ap, ap₂}
@@ -15,19 +15,18 @@ use Rattle.field.specs.Prime.{Prime}
 use Rattle.field.specs.PrimeTest.{and_true}
 use Rattle.field.specs.Residue.{residues, res, val, val_inj, val_small, res_one, field, prime_pos}
 use Rattle.field.specs.Bridge.{val_zero}
-use Rattle.lists.specs.Lists.{some}
 use Rattle.lists.specs.ListLaws.{clash, some_false, false_some, some_same}
 use Rattle.table.specs.Limits.{standard, most_prime, most_size, most_order}
-use Rattle.table.specs.Words.{Table, with_words, matrix_of, first_bad_of, first_bad_place_of, SameColumn}
+use Rattle.table.specs.Words.{Table, matrix_of, first_bad_of, first_bad_place_of, SameColumn}
 use Rattle.table.proofs.WordLaws.{words_below, place_below, place_good, place_same, gens_same, first_bad_same, matrix_same}
 use Rattle.table.specs.Results.{column, first_zero_of, pivot_w}
-use Rattle.table.specs.Replies.{Reply, Check, Accepted, NoFault, cause_at, check_row, accept, refuse, answer, short, bad_place_of}
+use Rattle.table.specs.Replies.{Reply, Check, Accepted, NoFault, cause_at, accept, refuse, answer, short, bad_place_of}
 use Rattle.table.specs.Calls.{table_length}
-use Rattle.table.proofs.CallLaws.{AllClear, number_is, all_clear, accepts_where, value_is, answer_append, open_checks, none_row}
+use Rattle.table.proofs.CallLaws.{AllClear, number_is, all_clear, accepts_where, answer_append, open_checks, none_row}
 use Rattle.table.proofs.AcceptsProof.{causes as bad_causes}
 use Rattle.table.proofs.PackedProof.{Fits, fit_nil, fit_cons, parts, plain, fits_sizes, short_fits, words_fit, column_fits}
 use Rattle.table_kernel.specs.KernelCall.{kernel_w, shows, kernel_reply, kernel_after, shows_checks, shows_reply}
-use Rattle.table_kernel.specs.KernelPromises.{SentToZeros, Shows, GoodLoan, GoodQuestion, ShowsCauses, CheckPromises, KernelPasses, KernelUnused}
+use Rattle.table_kernel.specs.KernelPromises.{Shows, GoodLoan, GoodQuestion, ShowsCauses, CheckPromises, KernelUnused}
 use Rattle.table_kernel.specs.KernelPromises.{Promises}
 use Rattle.table_kernel.proofs.KernelProof.{swept, table_good, kernel}
 

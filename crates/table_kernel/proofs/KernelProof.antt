@@ -1,7 +1,7 @@
 -- The kernel call: the proofs.
-use Rattle.std.specs.Prelude.{Bool, true, false, List, [], ◌∷◌, ◌++◌, ◌≢◌, ◌↔◌, ◌≡◌, ℕ, zero, suc, ◌+◌, ◌-◌, ◌<◌, ◌≤◌, ltb, eqb, length, get_or, drop}
+use Rattle.std.specs.Prelude.{Bool, true, false, List, [], ◌∷◌, ◌++◌, ◌↔◌, ◌≡◌, ℕ, zero, suc, ◌+◌, ◌-◌, ◌<◌, ◌≤◌, ltb, eqb, length, get_or, drop}
 use Rattle.std.proofs.Math.Path.{refl, ap}
-use Rattle.std.proofs.Common.{sym, ap₂, ◌∙◌, drop-drop, eq-eqb, ne_eqb}
+use Rattle.std.proofs.Common.{sym, ◌∙◌, drop-drop, ne_eqb}
 use native.Mathlib.Omega.{arith}
 use Rattle.std.proofs.lemmas.Bool.{eqb-false}
 use Rattle.algebra.specs.Ring.{Ring}
@@ -15,7 +15,7 @@ use Rattle.field.specs.Residue.{residues, res, val, res_val, res_one, val_small,
 use Rattle.lists.specs.Lists.{tabulate}
 use Rattle.lists.specs.ListLaws.{length_tabulate, get_d_here, first_le}
 use Rattle.table.specs.Limits.{standard, most_prime, most_size, most_order}
-use Rattle.table.specs.Words.{Table, gap, gens, matrix_of, first_bad_of, SameColumn}
+use Rattle.table.specs.Words.{Table, gap, gens, matrix_of, first_bad_of}
 use Rattle.table.proofs.WordLaws.{words_below}
 use Rattle.table.specs.Results.{column, column_words, first_zero_of}
 use Rattle.table.specs.Replies.{Reply, Check, Accepted, NoFault, cause_at, check, accept, refuse, answer, bad_prime_of, bad_size_of, bad_order, short}
@@ -25,7 +25,7 @@ use Rattle.table.proofs.CallLaws.{none_row}
 use Rattle.table.proofs.SingularRow.{least_singular, singular_first, regular_none, none_regular}
 use Rattle.table.proofs.AcceptsProof.{causes as bad_causes}
 use Rattle.table.proofs.PackedProof.{Fits, fit_nil, fit_cons, parts, plain, fits_sizes, short_fits, words_fit}
-use Rattle.table.proofs.UndertakingsProof.{first, third}
+use Rattle.table.proofs.UndertakingsProof.{third}
 use Rattle.table.specs.Undertakings.{GoodNumbers, GoodTable, NoneSingular}
 use Rattle.table_dense.specs.DenseCall.{dense_reply}
 use Rattle.table_dense.proofs.DensePromisesProof.{promises as dense_promises}

@@ -1,0 +1,2 @@
+pub mod DensePromisesProof
+pub mod DenseExamples
