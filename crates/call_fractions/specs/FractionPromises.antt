@@ -1,5 +1,5 @@
 -- What the call promises, as statements about FractionCall.antt. Quoted are the request and, of every call, the proposal and the
--- scope paper. The proofs are `largest-bound`, `bound-fits`, `at_most_one` and `promises` in FractionPromisesProof.antt.
+-- scope paper. The proofs are `largest_bound`, `bound_fits`, `at_most_one` and `promises` in FractionPromisesProof.antt.
 use Rattle.std.specs.Prelude.{false, ◌≢◌, ◌↔◌, ◌≡◌, List, [], ◌∷◌, ℕ, suc, ◌*◌, ◌≤◌, ◌<◌, ℤ, pos, length, get_or}
 use Rattle.field.specs.Prime.{Prime}
 use Rattle.table.specs.Words.{first_bad_place_of, SameColumn}

@@ -1,7 +1,7 @@
 -- Each call's checks and reply, and each written buffer afterwards.
 -- Numbers: 0 accepted, 1 prime, 2 size, 3 orders, 4 short buffer, 5 word or c not below P, 6 added orders, 7 zero pivot, 8 place, 9 file length, 10 chain.
 -- Buffers: 1 first table, 2 second, 3 column, 4 work, 5 result, 6 file bytes; 0 none.
--- For each call X: XChecks, the checks in their order; XReply, the reply; XAfter, a written buffer that held d before; XT, a written table.
+-- For each call x: x_checks, the checks in their order; x_reply, the reply; x_after, a written buffer that held d before; x_t, a written table.
 use Rattle.std.specs.Prelude.{◌||◌, not, List, [], ◌∷◌, ◌++◌, ℕ, ◌+◌, ◌*◌, ◌-◌, ltb, leb, eqb, length}
 use Rattle.table.specs.Limits.{Limits, standard}
 use Rattle.table.specs.Words.{Table, table, with_words, width, first_bad_of, first_bad_place_of}
