@@ -12,7 +12,7 @@ SCRIPT = os.path.join(os.path.dirname(os.path.abspath(__file__)), "..", "..", "d
 
 WORDS = """\
 -- Words of a table.
-use lib.Nat.{ℕ, _+_,
+use Rattle.std.specs.Prelude.{ℕ, ◌+◌,
     suc}
 
 -- the width of a row
@@ -23,10 +23,10 @@ pub record Table (P : ℕ) : Type 0 where
   pub rows : ℕ
   pub words : ℕ
 
-infixl 65 _⊕_
+infixl 65 ◌⊕◌
 pub data Kind : Type 0 where
   first : Kind
-  _⊕_ : Kind → Kind → Kind
+  ◌⊕◌ : Kind → Kind → Kind
 
 abbrev mutual
   pub even : ℕ → ℕ
@@ -37,7 +37,7 @@ abbrev mutual
   odd zero = 0
   odd (suc n) = even n
 
-pub ruleset rules = (width-is, width-more)
+pub ruleset rules = (width_is, width_more)
 
 module _ (P : ℕ)
     (N : ℕ) where
@@ -50,10 +50,10 @@ module _ (P : ℕ)
     high = N;
   }
 
-  pub gap-is : (k : ℕ) → gap k ≡ k
+  pub gap_is : (k : ℕ) → gap k ≡ k
   unfolding gap
-  gap-is zero = refl
-  gap-is (suc k) = go k
+  gap_is zero = refl
+  gap_is (suc k) = go k
     where
       go : (k : ℕ) → k ≡ k
       go k = refl
@@ -62,25 +62,27 @@ module _ (P : ℕ)
     has : k ≡ k
     has = refl
 
-pub width-is : width 0 ≡ text "a -- b"
-width-is = refl
+pub width_is : width 0 ≡ text "a -- b"
+width_is = refl
 
-width-more : (r : ℕ) → width (suc r) ≡ suc (width r)
-width-more r = refl
+width_more : (r : ℕ) → width (suc r) ≡ suc (width r)
+width_more r = refl
 """
 
 OTHER = """\
 abbrev pub twice : ℕ → ℕ
 twice n = n + n
 
-twice′ : twice 1 ≡ 2
-twice′ = refl
+twice' : twice 1 ≡ 2
+twice' = refl
 """
 
 LIB = """\
 // Code of one.
+#![tactic(auto)]
+
 use two::{Pair, Word};
-ghost use one.specs.Words.{width, _⊕_};
+ghost use Rattle.one.specs.Words.{width, ◌⊕◌};
 mod other;
 
 // the limits
@@ -98,16 +100,17 @@ enum Side {
 
 impl Half {
     pub fn zero(row: u32) -> Self
-        ensures { λ z. ⌜ z .row ≡ row ⌝ }
+        ensures { result.row ≡ row }
     {
         Half { row }
     }
 }
 
-#[no_mangle]
+#[unsafe(no_mangle)]
 pub extern "C" fn one_width(r: u32) -> u64
-    requires { ⌜ _≡_ {A = ℕ} r r ⌝ }
-    ensures { λ v. ⌜ v ≡ width r ⌝ }
+    requires { ◌≡◌ {A = ℕ} r r }
+    ensures value { result ≡ width r }
+    ensures low { result < 2 ^ 33 }
 {
     // A brace in a string shuts nothing: }
     show(b"} // ");
@@ -128,7 +131,7 @@ fn main() {
 
 def proof(name):
     """A proof file of ten lines that is like no other."""
-    return "".join("%s-%d : %s %d ≡ %d\n" % (name, k, name * 3, k, k) for k in range(10))
+    return "".join("%s_%d : %s %d ≡ %d\n" % (name, k, name * 3, k, k) for k in range(10))
 
 
 TREE = {
@@ -142,12 +145,12 @@ TREE = {
     "crates/one/specs/Lib.antt": "pub mod Words\n",
     "crates/one/specs/Words.antt": WORDS,
     "crates/one/src/lib.rt": LIB,
-    "crates/one/proofs/one_width/Proof.antt": proof("wide"),
-    "crates/one/proofs/plain/Proof.antt": proof("plain"),
+    "crates/one/proofs/one_width/Answers.antt": proof("wide"),
+    "crates/one/proofs/plain/Answers.antt": proof("plain"),
     "crates/one/must-fail/wrong.edit": "file: src/lib.rt\nold: 1 + r\nnew: 2 + r\n",
     "crates/two/specs/Other.antt": OTHER,
     "crates/two/src/main.rt": MAIN,
-    "crates/two/proofs/main/Proof.antt": proof("main"),
+    "crates/two/proofs/main/Answers.antt": proof("main"),
 }
 
 # What is printed of it where nothing changes.
@@ -286,7 +289,7 @@ lines: specs +0 -0, src +0 -0, proofs +0 -0, must-fail +0 -0, tests +0 -0, bench
     def test_white_space_of_specs(self):
         self.edit(ONE, "width r = 1 + r\n", "\nwidth r =\n    1  +  r\n\n")
         self.edit(ONE, "module _ (P : ℕ)\n    (N : ℕ) where\n", "module _ (P : ℕ) (N : ℕ) where\n")
-        self.edit(ONE, "pub gap-is : (k : ℕ) → gap k ≡ k\n", "pub gap-is :\n      (k : ℕ)\n      → gap k ≡ k\n")
+        self.edit(ONE, "pub gap_is : (k : ℕ) → gap k ≡ k\n", "pub gap_is :\n      (k : ℕ)\n      → gap k ≡ k\n")
         self.check({}, specs="+8 -4")
 
     def test_order_in_a_file(self):
@@ -301,8 +304,8 @@ lines: specs +0 -0, src +0 -0, proofs +0 -0, must-fail +0 -0, tests +0 -0, bench
         self.check({}, src="+5 -3")
 
     def test_order_of_imports(self):
-        self.edit(ONE, "use lib.Nat.{ℕ, _+_,\n    suc}\n", "use lib.Nat.{ℕ, _+_, suc}\n")
-        self.append(ONE, "\n" + self.take(ONE, "infixl 65 _⊕_\n"))
+        self.edit(ONE, "use Rattle.std.specs.Prelude.{ℕ, ◌+◌,\n    suc}\n", "use Rattle.std.specs.Prelude.{ℕ, ◌+◌, suc}\n")
+        self.append(ONE, "\n" + self.take(ONE, "infixl 65 ◌⊕◌\n"))
         self.append(CODE, "\n" + self.take(CODE, "use two::{Pair, Word};\n"))
         self.check({}, specs="+3 -3", src="+2 -1")
 
@@ -333,11 +336,15 @@ class ImportsTest(Case):
         self.moved("one/specs/Words.antt", specs="+1 -1")
 
     def test_fixity(self):
-        self.edit(ONE, "infixl 65 _⊕_\n", "infixl 66 _⊕_\n")
+        self.edit(ONE, "infixl 65 ◌⊕◌\n", "infixl 66 ◌⊕◌\n")
         self.moved("one/specs/Words.antt", specs="+1 -1")
 
     def test_code(self):
-        self.edit(CODE, "ghost use one.specs.Words.{width, _⊕_};\n", "ghost use one.specs.Weaker.{width, _⊕_};\n")
+        self.edit(CODE, "ghost use Rattle.one.specs.Words.{width, ◌⊕◌};\n", "ghost use Rattle.one.specs.Weaker.{width, ◌⊕◌};\n")
+        self.moved("one/src/lib.rt", src="+1 -1")
+
+    def test_setting(self):
+        self.edit(CODE, "#![tactic(auto)]\n", "#![tactic(auto, using(width_is))]\n")
         self.moved("one/src/lib.rt", src="+1 -1")
 
     def test_module(self):
@@ -372,9 +379,9 @@ class SpecTest(Case):
     def test_definitions(self):
         self.edit(ONE, "width r = 1 + r", "width r = 2 + r")
         self.edit(ONE, "  pub words : ℕ\n", "  pub words : ℕ\n  pub low : ℕ\n")
-        self.edit(ONE, "  _⊕_ : Kind → Kind → Kind\n", "  _⊕_ : Kind → Kind\n")
+        self.edit(ONE, "  ◌⊕◌ : Kind → Kind → Kind\n", "  ◌⊕◌ : Kind → Kind\n")
         self.edit(ONE, "  odd zero = 0\n", "  odd zero = 2\n")
-        self.edit(ONE, "(width-is, width-more)", "(width-more, width-is)")
+        self.edit(ONE, "(width_is, width_more)", "(width_more, width_is)")
         self.edit(ONE, "  unfolding width\n", "")
         self.check({
             "definitions": """2 stayed, 6 moved, 0 new, 0 gone, 0 elsewhere
@@ -412,7 +419,7 @@ moved      one/specs/Words.antt  width""",
         self.check({
             "definitions": "7 stayed, 1 moved, 0 new, 0 gone, 0 elsewhere\nmoved      one/specs/Words.antt  gap",
             "statements of laws": """3 stayed, 2 moved, 0 new, 0 gone, 0 elsewhere
-moved      one/specs/Words.antt  gap-is
+moved      one/specs/Words.antt  gap_is
 moved      one/specs/Words.antt  has""",
             "proofs of laws with the same statement": "3 stayed, 0 moved",
             "imports, by file": "2 stayed, 1 moved, 0 new, 0 gone, 0 elsewhere\nmoved      one/specs/Words.antt",
@@ -435,20 +442,20 @@ moved      one/specs/Words.antt  has""",
     def test_proofs(self):
         for old, new in (
             ("  unfolding gap\n", "  unfolding gap width\n"),
-            ("width-more r = refl\n", "width-more zero = refl\nwidth-more (suc r) = refl\n"),
+            ("width_more r = refl\n", "width_more zero = refl\nwidth_more (suc r) = refl\n"),
         ):
             self.edit(ONE, old, new)
         self.check({
             "proofs of laws with the same statement": """3 stayed, 2 moved
-moved      one/specs/Words.antt  gap-is
-moved      one/specs/Words.antt  width-more""",
+moved      one/specs/Words.antt  gap_is
+moved      one/specs/Words.antt  width_more""",
         }, specs="+3 -2")
 
     def test_local_law(self):
         self.edit(ONE, "      go : (k : ℕ) → k ≡ k\n", "      go : (k : ℕ) → gap k ≡ k\n")
         self.check({
             "proofs of laws with the same statement": """4 stayed, 1 moved
-moved      one/specs/Words.antt  gap-is""",
+moved      one/specs/Words.antt  gap_is""",
         }, specs="+1 -1")
 
     def test_statements(self):
@@ -456,34 +463,34 @@ moved      one/specs/Words.antt  gap-is""",
         self.edit(ONE, "(r : ℕ) → width (suc r)", "{r : ℕ} → width (suc r)")
         self.check({
             "statements of laws": """3 stayed, 2 moved, 0 new, 0 gone, 0 elsewhere
-moved      one/specs/Words.antt  width-is
-moved      one/specs/Words.antt  width-more""",
+moved      one/specs/Words.antt  width_is
+moved      one/specs/Words.antt  width_more""",
             "proofs of laws with the same statement": "3 stayed, 0 moved",
         }, specs="+2 -2")
 
     def test_white_space_in_a_string(self):
         self.edit(ONE, "text \"a -- b\"", "text \"a --  b\"")
         self.check({
-            "statements of laws": "4 stayed, 1 moved, 0 new, 0 gone, 0 elsewhere\nmoved      one/specs/Words.antt  width-is",
+            "statements of laws": "4 stayed, 1 moved, 0 new, 0 gone, 0 elsewhere\nmoved      one/specs/Words.antt  width_is",
             "proofs of laws with the same statement": "4 stayed, 0 moved",
         }, specs="+1 -1")
 
     def test_pub(self):
         self.edit(ONE, "abbrev pub width", "abbrev width")
-        self.edit(ONE, "width-more : (r", "pub width-more : (r")
-        self.edit(ONE, "pub width-is : width 0", "width-is : width 1")
+        self.edit(ONE, "width_more : (r", "pub width_more : (r")
+        self.edit(ONE, "pub width_is : width 0", "width_is : width 1")
         self.check({
             "definitions": """7 stayed, 1 moved (1 by pub alone), 0 new, 0 gone, 0 elsewhere
 moved      one/specs/Words.antt  width  (pub alone)""",
             "statements of laws": """3 stayed, 2 moved (1 by pub alone), 0 new, 0 gone, 0 elsewhere
-moved      one/specs/Words.antt  width-is
-moved      one/specs/Words.antt  width-more  (pub alone)""",
+moved      one/specs/Words.antt  width_is
+moved      one/specs/Words.antt  width_more  (pub alone)""",
             "proofs of laws with the same statement": "4 stayed, 0 moved",
         }, specs="+3 -3")
 
     def test_new_and_gone(self):
         self.take(ONE, "-- the width of a row\nabbrev pub width : ℕ → ℕ\nwidth r = 1 + r\n\n")
-        self.take(ONE, "\nwidth-more : (r : ℕ) → width (suc r) ≡ suc (width r)\nwidth-more r = refl\n")
+        self.take(ONE, "\nwidth_more : (r : ℕ) → width (suc r) ≡ suc (width r)\nwidth_more r = refl\n")
         self.append(TWO, "\nrecord Thrice : Type 0 where\n  n : ℕ\n\nthrice : ℕ\nthrice = 3\n\nfourth : 4 ≡ 4\n")
         self.check({
             "definitions": """7 stayed, 0 moved, 1 new, 1 gone, 0 elsewhere
@@ -492,23 +499,23 @@ gone       one/specs/Words.antt  width""",
             "statements of laws": """4 stayed, 0 moved, 2 new, 1 gone, 0 elsewhere
 new        two/specs/Other.antt  thrice
 new        two/specs/Other.antt  fourth
-gone       one/specs/Words.antt  width-more""",
+gone       one/specs/Words.antt  width_more""",
             "proofs of laws with the same statement": "4 stayed, 0 moved",
         }, specs="+8 -7")
 
     def test_rehoused(self):
         self.append(TWO, "\n" + self.take(ONE, "-- the width of a row\nabbrev pub width : ℕ → ℕ\nwidth r = 1 + r\n\n")[:-1])
-        self.append(TWO, self.take(ONE, "\npub width-is : width 0 ≡ text \"a -- b\"\nwidth-is = refl\n"))
-        self.append(TWO, self.take(ONE, "\nwidth-more : (r : ℕ) → width (suc r) ≡ suc (width r)\nwidth-more r = refl\n"))
-        self.edit(TWO, "width-more r = refl", "width-more r = cc")
+        self.append(TWO, self.take(ONE, "\npub width_is : width 0 ≡ text \"a -- b\"\nwidth_is = refl\n"))
+        self.append(TWO, self.take(ONE, "\nwidth_more : (r : ℕ) → width (suc r) ≡ suc (width r)\nwidth_more r = refl\n"))
+        self.edit(TWO, "width_more r = refl", "width_more r = cc")
         self.check({
             "definitions": """7 stayed, 0 moved, 0 new, 0 gone, 1 elsewhere
 elsewhere  one/specs/Words.antt -> two/specs/Other.antt  width""",
             "statements of laws": """3 stayed, 0 moved, 0 new, 0 gone, 2 elsewhere
-elsewhere  one/specs/Words.antt -> two/specs/Other.antt  width-is
-elsewhere  one/specs/Words.antt -> two/specs/Other.antt  width-more""",
+elsewhere  one/specs/Words.antt -> two/specs/Other.antt  width_is
+elsewhere  one/specs/Words.antt -> two/specs/Other.antt  width_more""",
             "proofs of laws with the same statement": """4 stayed, 1 moved
-moved      one/specs/Words.antt -> two/specs/Other.antt  width-more""",
+moved      one/specs/Words.antt -> two/specs/Other.antt  width_more""",
         }, specs="+10 -10")
 
     def test_other_text_in_another_file(self):
@@ -529,6 +536,15 @@ new        two/specs/Other.antt  width
 new        two/specs/Third.antt  width
 gone       one/specs/Words.antt  width""",
         }, specs="+5 -3")
+
+    def test_names_with_primes(self):
+        self.append(TWO, "\nn' : 1 ≡ 1\nn' = refl\n\nn'' : n'{1} ≡ n'\nn'' = refl -- (\n\nx--y : 2 ≡ 2 {- } -\n: -}\nx--y = refl\n")
+        self.check({
+            "statements of laws": """5 stayed, 0 moved, 3 new, 0 gone, 0 elsewhere
+new        two/specs/Other.antt  n'
+new        two/specs/Other.antt  n''
+new        two/specs/Other.antt  x--y""",
+        }, specs="+10 -0")
 
     def test_copied(self):
         self.append(TWO, "\nabbrev pub width : ℕ → ℕ\nwidth r = 1 + r\n")
@@ -555,7 +571,7 @@ new        two/specs/Other.antt  width""",
 moved      two/specs/Other.antt -> two/specs/Numbers.antt  twice
 new        one/specs/Words.antt  twice""",
             "statements of laws": """4 stayed, 0 moved, 0 new, 0 gone, 1 elsewhere
-elsewhere  two/specs/Other.antt -> two/specs/Numbers.antt  twice′""",
+elsewhere  two/specs/Other.antt -> two/specs/Numbers.antt  twice'""",
         }, specs="+4 -1")
 
 
@@ -632,13 +648,62 @@ gone       two/specs/Other.antt  w""",
         ), specs="+2 -9")
 
 
+class LemmasTest(Case):
+    """Files of lemmas, right in proofs/."""
+
+    LEMMAS = "use Rattle.one.specs.Words.{width}\n\nwidth_two : width 2 ≡ 3\nwidth_two = refl\n"
+
+    def setUp(self):
+        super().setUp()
+        self.write("crates/one/proofs/Lib.antt", "mod Lemmas\n")
+        self.write("crates/one/proofs/Lemmas.antt", self.LEMMAS)
+        self.commit()
+
+    def owed(self, sections, lines):
+        before = {
+            "statements of laws": "6 stayed, 0 moved, 0 new, 0 gone, 0 elsewhere",
+            "proofs of laws with the same statement": "6 stayed, 0 moved",
+            "imports, by file": "5 stayed, 0 moved, 0 new, 0 gone, 0 elsewhere",
+            "proof files": "4 untouched, 1 touched, 0 renamed, 0 new, 0 gone\ntouched    one/proofs/Lemmas.antt  +1 -1",
+        }
+        return super().owed({**before, **sections}, lines)
+
+    def test_proof(self):
+        self.edit("crates/one/proofs/Lemmas.antt", "width_two = refl", "width_two = cc")
+        self.check({
+            "proofs of laws with the same statement": "5 stayed, 1 moved\nmoved      one/proofs/Lemmas.antt  width_two",
+        }, proofs="+1 -1")
+
+    def test_statement(self):
+        self.edit("crates/one/proofs/Lemmas.antt", "width 2 ≡ 3", "3 ≡ width 2")
+        self.check({
+            "statements of laws": "5 stayed, 1 moved, 0 new, 0 gone, 0 elsewhere\nmoved      one/proofs/Lemmas.antt  width_two",
+            "proofs of laws with the same statement": "5 stayed, 0 moved",
+        }, proofs="+1 -1")
+
+    def test_out_of_the_specs(self):
+        law = "\nwidth_more : (r : ℕ) → width (suc r) ≡ suc (width r)\nwidth_more r = refl\n"
+        self.append("crates/one/proofs/Lemmas.antt", self.take(ONE, law))
+        self.check({
+            "statements of laws": """5 stayed, 0 moved, 0 new, 0 gone, 1 elsewhere
+elsewhere  one/specs/Words.antt -> one/proofs/Lemmas.antt  width_more""",
+            "proof files": "4 untouched, 1 touched, 0 renamed, 0 new, 0 gone\ntouched    one/proofs/Lemmas.antt  +3 -0",
+        }, specs="+0 -3", proofs="+3 -0")
+
+    def test_answers(self):
+        self.edit("crates/one/proofs/plain/Answers.antt", "plain_9 : ", "of no kind\nplain_9 : ")
+        self.check({
+            "proof files": "4 untouched, 1 touched, 0 renamed, 0 new, 0 gone\ntouched    one/proofs/plain/Answers.antt  +1 -0",
+        }, proofs="+1 -0")
+
+
 class CodeTest(Case):
     """Contracts and code."""
 
     def test_contracts(self):
-        self.edit(CODE, "⌜ v ≡ width r ⌝", "⌜ v ≡ width r × ⊤ ⌝")
+        self.edit(CODE, "ensures low { result < 2 ^ 33 }", "ensures low { result < 2 ^ 34 }")
         self.edit(CODE, "fn plain(x: [u32; 2])", "fn plain(y: [u32; 2])")
-        self.edit(CODE, "        ensures { λ z. ", "        requires { ⌜ row < 8 ⌝ }\n        ensures { λ z. ")
+        self.edit(CODE, "        ensures { result.row", "        requires { row < 8 }\n        ensures { result.row")
         self.check({
             "contracts": """1 stayed, 3 moved, 0 new, 0 gone, 0 elsewhere
 moved      one::Half::zero
@@ -647,7 +712,7 @@ moved      one::plain""",
         }, src="+3 -2")
 
     def test_attribute(self):
-        self.edit(CODE, "#[no_mangle]\n", "")
+        self.edit(CODE, "#[unsafe(no_mangle)]\n", "")
         self.check({"contracts": "3 stayed, 1 moved, 0 new, 0 gone, 0 elsewhere\nmoved      one::one_width"}, src="+0 -1")
 
     def test_bodies(self):
@@ -711,7 +776,7 @@ impl<'a> Whole<'a> {
 }
 
 fn h()
-    requires { ⌜ c '{' ⌝ }
+    requires { IsText c '{' }
 {
 }
 """)
@@ -725,6 +790,60 @@ new        two::inner::f
 new        two::Whole::g
 new        two::h""",
         }, src="+13 -0")
+
+    def test_forms(self):
+        """Clauses of every kind, members for contracts, functions of a trait, and what stands before a `fn`."""
+        self.append(CODE_TWO, """
+pub trait Held: Sized {
+    ghost size: { Self → ℕ };
+    pub ghost law = { λ h. IsHeld h } by { known };
+    fn held(&self) -> u32
+        requires { width self.now < 8 };
+    final fn twice<'a>(&'a self) -> u32 where Self: Sized, { 2 }
+}
+
+impl<'a, T: Held> Model for Half<'a, T> where T: Copy {
+    ghost view = { λ h. (h, ';', record { n = '{' }) };
+}
+
+static LOW: [u32; 2] = { [1, 2] };
+
+pub(crate) const fn f(n: &mut [u32]) -> u32
+    ghost k: { ℕ }
+    requires one { n.old ≡ k }
+    ensures* kept { lies_at u8 n.new }
+    ensures { result ≡ x' }
+{
+    1
+}
+
+#[tactic(auto, using(width_is))]
+unsafe fn g() {}
+""")
+        self.check({
+            "contracts": """4 stayed, 0 moved, 7 new, 0 gone, 0 elsewhere
+new        two::Held::size
+new        two::Held::law
+new        two::Held::held
+new        two::Held::twice
+new        two::Half::view
+new        two::f
+new        two::g""",
+            "code": """8 stayed, 0 moved, 4 new, 0 gone, 0 elsewhere
+new        two::Held::twice
+new        two::LOW
+new        two::f
+new        two::g""",
+        }, src="+26 -0")
+
+    def test_clauses(self):
+        self.append(CODE_TWO, "\nfn f(n: u8)\n    ghost k: { ℕ }\n    ensures* { lies_at u8 n }\n{\n    1\n}\n")
+        self.commit()
+        self.edit(CODE_TWO, "ghost k: { ℕ }", "ghost k: { ℤ }")
+        self.check({
+            "contracts": "4 stayed, 1 moved, 0 new, 0 gone, 0 elsewhere\nmoved      two::f",
+            "code": "9 stayed, 0 moved, 0 new, 0 gone, 0 elsewhere",
+        }, src="+1 -1")
 
     def test_rehoused(self):
         self.append(CODE_TWO, self.take(CODE, "\nfn plain(x: [u32; 2]) -> u32 {\n    x[0]\n}\n"))
@@ -742,40 +861,40 @@ class FilesTest(Case):
     """Proof files, edits that must fail, and lines."""
 
     def test_touched(self):
-        self.edit("crates/one/proofs/plain/Proof.antt", "plain-9 : ", "-- the last\nplain-9 : ")
+        self.edit("crates/one/proofs/plain/Answers.antt", "plain_9 : ", "-- the last\nplain_9 : ")
         self.check({
-            "proof files": "2 untouched, 1 touched, 0 renamed, 0 new, 0 gone\ntouched    one/proofs/plain/Proof.antt  +1 -0",
+            "proof files": "2 untouched, 1 touched, 0 renamed, 0 new, 0 gone\ntouched    one/proofs/plain/Answers.antt  +1 -0",
         }, proofs="+1 -0")
 
     def test_renamed(self):
-        self.rename("crates/one/proofs/plain/Proof.antt", "crates/two/proofs/plain/Proof.antt")
+        self.rename("crates/one/proofs/plain/Answers.antt", "crates/two/proofs/plain/Answers.antt")
         self.check({
             "proof files": """2 untouched, 0 touched, 1 renamed, 0 new, 0 gone
-renamed    one/proofs/plain/Proof.antt -> two/proofs/plain/Proof.antt""",
+renamed    one/proofs/plain/Answers.antt -> two/proofs/plain/Answers.antt""",
         })
 
     def test_renamed_and_touched(self):
-        self.rename("crates/one/proofs/plain/Proof.antt", "crates/two/proofs/plain/Proof.antt")
-        self.edit("crates/two/proofs/plain/Proof.antt", "plain-9 : ", "plain-10 : ")
+        self.rename("crates/one/proofs/plain/Answers.antt", "crates/two/proofs/plain/Answers.antt")
+        self.edit("crates/two/proofs/plain/Answers.antt", "plain_9 : ", "plain_10 : ")
         self.check({
             "proof files": """2 untouched, 1 touched, 0 renamed, 0 new, 0 gone
-touched    one/proofs/plain/Proof.antt -> two/proofs/plain/Proof.antt  +1 -1""",
+touched    one/proofs/plain/Answers.antt -> two/proofs/plain/Answers.antt  +1 -1""",
         }, proofs="+1 -1")
 
     def test_new_and_gone(self):
-        self.remove("crates/one/proofs/plain/Proof.antt")
-        self.write("crates/two/proofs/second/Proof.antt", "second : 2 ≡ 2\nsecond = refl\n")
+        self.remove("crates/one/proofs/plain/Answers.antt")
+        self.write("crates/two/proofs/second/Answers.antt", "second : 2 ≡ 2\nsecond = refl\n")
         self.check({
             "proof files": """2 untouched, 0 touched, 0 renamed, 1 new, 1 gone
-new        two/proofs/second/Proof.antt  +2
-gone       one/proofs/plain/Proof.antt  -10""",
+new        two/proofs/second/Answers.antt  +2
+gone       one/proofs/plain/Answers.antt  -10""",
         }, proofs="+2 -10")
 
     def test_out_of_the_proofs(self):
-        self.rename("crates/one/proofs/plain/Proof.antt", "docs/Plain.antt")
+        self.rename("crates/one/proofs/plain/Answers.antt", "docs/Plain.antt")
         self.check({
             "proof files": """2 untouched, 0 touched, 0 renamed, 0 new, 1 gone
-gone       one/proofs/plain/Proof.antt -> docs/Plain.antt""",
+gone       one/proofs/plain/Answers.antt -> docs/Plain.antt""",
         })
 
     def test_edits(self):
@@ -793,11 +912,11 @@ new        two/must-fail/nothing.edit  +3""",
             "definitions": """7 stayed, 0 moved, 0 new, 0 gone, 1 elsewhere
 elsewhere  two/specs/Other.antt -> second/specs/Other.antt  twice""",
             "statements of laws": """4 stayed, 0 moved, 0 new, 0 gone, 1 elsewhere
-elsewhere  two/specs/Other.antt -> second/specs/Other.antt  twice′""",
+elsewhere  two/specs/Other.antt -> second/specs/Other.antt  twice'""",
             "contracts": "3 stayed, 0 moved, 0 new, 0 gone, 1 elsewhere\nelsewhere  two::main -> second::main",
             "code": "7 stayed, 0 moved, 0 new, 0 gone, 1 elsewhere\nelsewhere  two::main -> second::main",
             "proof files": """2 untouched, 0 touched, 1 renamed, 0 new, 0 gone
-renamed    two/proofs/main/Proof.antt -> second/proofs/main/Proof.antt""",
+renamed    two/proofs/main/Answers.antt -> second/proofs/main/Answers.antt""",
         })
 
     def test_lines(self):
@@ -809,7 +928,7 @@ renamed    two/proofs/main/Proof.antt -> second/proofs/main/Proof.antt""",
         self.check({}, docs="+3 -1", tests="+12 -0", bench="+16 -0", rest="+1,001 -0")
 
     def test_thousands(self):
-        self.append(TWO, "".join("\nlaw-%d : %d ≡ %d\n" % (k, k, k) for k in range(1234)))
+        self.append(TWO, "".join("\nlaw_%d : %d ≡ %d\n" % (k, k, k) for k in range(1234)))
         self.commit()
         self.check({
             "statements of laws": "1,239 stayed, 0 moved, 0 new, 0 gone, 0 elsewhere",
@@ -842,7 +961,7 @@ moved      one/specs/Words.antt  width""",
             self.assertEqual(self.run_script("HEAD~1", folder=folder), whole)
 
     def test_two_commits(self):
-        self.take(ONE, "width-more : (r : ℕ) → width (suc r) ≡ suc (width r)\nwidth-more r = refl\n")
+        self.take(ONE, "width_more : (r : ℕ) → width (suc r) ≡ suc (width r)\nwidth_more r = refl\n")
         self.commit()
         self.edit(ONE, "width r = 1 + r", "width r = 2 + r")
         self.commit()
@@ -851,7 +970,7 @@ moved      one/specs/Words.antt  width""",
 
 definitions: 8 stayed, 0 moved, 0 new, 0 gone, 0 elsewhere
 statements of laws: 4 stayed, 0 moved, 1 new, 0 gone, 0 elsewhere
-  new        one/specs/Words.antt  width-more
+  new        one/specs/Words.antt  width_more
 proofs of laws with the same statement: 4 stayed, 0 moved
 contracts: 4 stayed, 0 moved, 0 new, 0 gone, 0 elsewhere
 code: 8 stayed, 0 moved, 0 new, 0 gone, 0 elsewhere
@@ -880,13 +999,13 @@ UNPLACED_SPECS = [
     (2, "a : ℕ\nb = 1\n"),
     (2, "a : ℕ\npub a = 1\n"),
     (2, "module _ where\n    a : ℕ\n"),
-    (3, "a : ℕ\ninfixl 65 _+_\na = 1\n"),
+    (3, "a : ℕ\ninfixl 65 ◌+◌\na = 1\n"),
     (3, "module _ where\n  a : ℕ\na = 1\n"),
     (3, "-- none\n\nwhere\n"),
     (4, "module _ where\n  a : ℕ\n  a = 1\n a = 2\n"),
 ]
 UNPLACED_CODE = [
-    (1, "static X: u32 = 1;\n"),
+    (1, "extern crate x;\n"),
     (1, "}\n"),
     (1, "const X: u32 = 1\n"),
     (2, "// two\nlet x = 1;\n"),

@@ -4,7 +4,7 @@
 ghost use Rattle.std.specs.Prelude.{◌<◌};
 ghost use Rattle.field.specs.Ready.{Ready};
 
-use libc::STDOUT_FILENO;
+use std::io;
 
 // Small numbers, Carmichael numbers, a strong pseudoprime, squares of large primes of each residue prime to 30, products of two primes,
 // and numbers up to 2^31 - 1.
@@ -22,66 +22,66 @@ const PAIRS: [u32; 40] = [
     1073741824, 2147483647, 1234567890, 2147483647, 2147483645, 2147483647, 2147483646,
 ];
 
-fn print(n: u32) {
-    io::print_decimal(STDOUT_FILENO, n as u64);
-    io::write_all(STDOUT_FILENO, b" ");
+fn print(rt: &impl Print, n: u32) -> io::Result<()> {
+    print!(rt; "{n} ")
 }
 
 // The number, and whether it is prime.
-fn show_prime(n: u32) {
+fn show_prime(rt: &impl Print, n: u32) -> io::Result<()> {
     if n > 2147483647 {
-        return;
+        return Ok(());
     }
-    print(n);
+    print(rt, n)?;
     if primes::is_prime(n) {
-        io::write_all(STDOUT_FILENO, b"prime\n");
+        println!(rt; "prime")
     } else {
-        io::write_all(STDOUT_FILENO, b"not prime\n");
+        println!(rt; "not prime")
     }
 }
 
 // -a, 1 - a and 1 + a; then 1 and one to four times the square of a.
-fn show_sums(m: field::Modulus, a: u32)
+fn show_sums(rt: &impl Print, m: field::Modulus, a: u32) -> io::Result<()>
     requires { Ready m × (1 < m.p) × (a < m.p) }
 {
-    print(field::neg(m, a));
-    print(field::sub(m, 1, a));
-    print(field::add(m, 1, a));
-    print(field::mul_add(m, 1, a, a));
-    print(field::mul_add_2(m, 1, a, a, a, a));
-    print(field::mul_add_3(m, 1, a, a, a, a, a, a));
-    print(field::mul_add_4(m, 1, a, a, a, a, a, a, a, a));
+    print(rt, field::neg(m, a))?;
+    print(rt, field::sub(m, 1, a))?;
+    print(rt, field::add(m, 1, a))?;
+    print(rt, field::mul_add(m, 1, a, a))?;
+    print(rt, field::mul_add_2(m, 1, a, a, a, a))?;
+    print(rt, field::mul_add_3(m, 1, a, a, a, a, a, a))?;
+    print(rt, field::mul_add_4(m, 1, a, a, a, a, a, a, a, a))
 }
 
 // p, a, 1/a and a times 1/a, then the sums.
-fn show_inverse(p: u32, a: u32) {
+fn show_inverse(rt: &impl Print, p: u32, a: u32) -> io::Result<()> {
     if p > 2147483647 {
-        return;
+        return Ok(());
     }
     if a == 0 {
-        return;
+        return Ok(());
     }
     if a >= p {
-        return;
+        return Ok(());
     }
     if !primes::is_prime(p) {
-        return;
+        return Ok(());
     }
     let m = field::Modulus::new(p);
     let i = field::inverse(m, a);
-    print(p);
-    print(a);
-    print(i);
-    print(field::mul(m, a, i));
-    show_sums(m, a);
-    io::write_all(STDOUT_FILENO, b"\n");
+    print(rt, p)?;
+    print(rt, a)?;
+    print(rt, i)?;
+    print(rt, field::mul(m, a, i))?;
+    show_sums(rt, m, a)?;
+    println!(rt; "")
 }
 
-fn main() {
+fn main(rt: HostRuntime) -> io::Result<()> {
     for k in 0..47 {
-        show_prime(NUMBERS[k]);
+        show_prime(&rt, NUMBERS[k])?;
     }
     for k in 0..20 {
-        show_inverse(PAIRS[2 * k], PAIRS[2 * k + 1]);
+        show_inverse(&rt, PAIRS[2 * k], PAIRS[2 * k + 1])?;
     }
+    Ok(())
 }

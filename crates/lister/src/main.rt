@@ -9,23 +9,30 @@ ghost use Rattle.check_numbers.specs.Passed.{Good};
 
 use check_numbers::Reply;
 use field::Modulus;
-use libc::{STDIN_FILENO, STDOUT_FILENO};
+use std::io::{self, Read, Write};
 
 // The first n bytes of a line.
-fn show(line: &[u8], n: usize)
+fn show(rt: &impl Print, line: &[u8], n: usize) -> io::Result<()>
     requires { n ≤ length line.now }
 {
-    io::write_all(STDOUT_FILENO, &line[..n]);
+    io::writer(rt).write_all(&line[..n])
 }
 
-fn show_refusal(y: Reply) {
+fn show_refusal(rt: &impl Print, y: Reply) -> io::Result<()> {
     let mut line = [0u8; 128];
     let n = listing::refusal_line(&mut line, y.number, y.buffer, y.row);
-    show(&line, n);
+    show(rt, &line, n)
 }
 
 // The matrix, row by row.
-fn show_rows(m: Modulus, n: usize, r: usize, s: usize, table: &[u32])
+fn show_rows(
+    rt: &impl Print,
+    m: Modulus,
+    n: usize,
+    r: usize,
+    s: usize,
+    table: &[u32],
+) -> io::Result<()>
     requires { Ready m × Good m.p n (tab r s table.now) }
 {
     let mut row = [0u32; 1024];
@@ -34,46 +41,60 @@ fn show_rows(m: Modulus, n: usize, r: usize, s: usize, table: &[u32])
     while i < n {
         call_entry::matrix_row(m, n, r, s, table, i, &mut row[..n]);
         let end = listing::row_line(&mut line, &row, n);
-        show(&line, end);
+        show(rt, &line, end)?;
         i += 1;
     }
+    Ok(())
 }
 
 // A table that was read: its numbers, its matrix, its pivots.
-fn show_table(p: u32, n: u32, r: u32, s: u32, table: &[u32])
+fn show_table(rt: &impl Print, p: u32, n: u32, r: u32, s: u32, table: &[u32]) -> io::Result<()>
     requires { Good p n (tab r s table.now) }
 {
     let m = Modulus::new(p);
     let mut line = [0u8; 128];
     let head = listing::head_line(&mut line, p, n, r, s);
-    show(&line, head);
-    show_rows(m, n as usize, r as usize, s as usize, table);
+    show(rt, &line, head)?;
+    show_rows(rt, m, n as usize, r as usize, s as usize, table)?;
     let mut inverses = [0u32; 1024];
     let zero = sweep_pivot::first_zero(m, n as usize, r as usize, s as usize, table, &mut inverses);
     let last = listing::last_line(&mut line, zero as u32);
-    show(&line, last);
+    show(rt, &line, last)
 }
 
 // The listing of a file: at most 41,492 bytes, whose table has at most 10,368 words.
-fn list(file: &[u8]) {
+fn list(rt: &impl Print, file: &[u8]) -> io::Result<()> {
     if 41492 < file.len() {
-        show_refusal(check_numbers::refuse(9, 6, 0));
-        return;
+        return show_refusal(rt, check_numbers::refuse(9, 6, 0));
     }
     let mut table = [0u32; 10368];
     let y = call_file::read(file, &mut table);
     if y.number != 0 {
-        show_refusal(y);
-        return;
+        return show_refusal(rt, y);
     }
     let n = file_words::word(file, 1);
     let r = file_words::word(file, 2);
     let s = file_words::word(file, 3);
-    show_table(y.value, n, r, s, &table);
+    show_table(rt, y.value, n, r, s, &table)
 }
 
-fn main() {
+// Reads until the file's room is full, the input ends or cannot be read, and returns how many bytes were read.
+fn read_full(input: &mut impl Read, file: &mut [u8]) -> usize
+    ensures { result ≤ length file.new }
+{
+    let mut done = 0;
+    while done < file.len() {
+        match input.read(&mut file[done..]) {
+            Ok(0) | Err(_) => break,
+            Ok(n) => done += n,
+        }
+    }
+    done
+}
+
+fn main(rt: HostRuntime) {
     let mut file = [0u8; 41493];
-    let n = io::read_full(STDIN_FILENO, &mut file);
-    list(&file[..n]);
+    let n = read_full(&mut rt.stdin(), &mut file);
+    // Where it cannot be printed there is nothing left to do.
+    let _ = list(&rt, &file[..n]);
 }

@@ -1,4 +1,4 @@
-// The C library: thin functions over the proved calls, with the reply packed into 64 bits. include/residues.h declares them.
+// The library: thin functions over the proved calls, with the reply packed into 64 bits. Crate residues_c hands them to C.
 #![tactic(auto)]
 
 ghost use Rattle.std.specs.Prelude.{◌≡◌};
@@ -33,38 +33,20 @@ ghost use Rattle.table.specs.Calls.{
   write_after,
 };
 
-#[unsafe(no_mangle)]
-pub extern "C" fn residues_entry(
-    p: u32,
-    n: u32,
-    r: u32,
-    s: u32,
-    i: u32,
-    j: u32,
-    table: &[u32],
-) -> u64
+pub fn residues_entry(p: u32, n: u32, r: u32, s: u32, i: u32, j: u32, table: &[u32]) -> u64
     ensures { result ≡ packed (entry_reply p n (tab r s table.now) i j) }
 {
     check_numbers::pack(call_entry::entry(p, n, r, s, i, j, table))
 }
 
-#[unsafe(no_mangle)]
-pub extern "C" fn residues_matrix(
-    p: u32,
-    n: u32,
-    r: u32,
-    s: u32,
-    table: &[u32],
-    res: &mut [u32],
-) -> u64
+pub fn residues_matrix(p: u32, n: u32, r: u32, s: u32, table: &[u32], res: &mut [u32]) -> u64
     ensures value { result ≡ packed (matrix_reply p n (tab r s table.now) res.old) }
     ensures res_after { res.new ≡ matrix_after p n (tab r s table.now) res.old }
 {
     check_numbers::pack(call_entry::matrix(p, n, r, s, table, res))
 }
 
-#[unsafe(no_mangle)]
-pub extern "C" fn residues_apply(
+pub fn residues_apply(
     p: u32,
     n: u32,
     r: u32,
@@ -79,8 +61,7 @@ pub extern "C" fn residues_apply(
     check_numbers::pack(call_apply::apply(p, n, r, s, table, column, res))
 }
 
-#[unsafe(no_mangle)]
-pub extern "C" fn residues_apply_transpose(
+pub fn residues_apply_transpose(
     p: u32,
     n: u32,
     r: u32,
@@ -95,23 +76,14 @@ pub extern "C" fn residues_apply_transpose(
     check_numbers::pack(call_apply::apply_transpose(p, n, r, s, table, column, res))
 }
 
-#[unsafe(no_mangle)]
-pub extern "C" fn residues_transpose(
-    p: u32,
-    n: u32,
-    r: u32,
-    s: u32,
-    table: &[u32],
-    res: &mut [u32],
-) -> u64
+pub fn residues_transpose(p: u32, n: u32, r: u32, s: u32, table: &[u32], res: &mut [u32]) -> u64
     ensures value { result ≡ packed (transpose_reply p n (tab r s table.now) res.old) }
     ensures res_after { res.new ≡ transpose_after p n (tab r s table.now) res.old }
 {
     check_numbers::pack(call_transpose::transpose(p, n, r, s, table, res))
 }
 
-#[unsafe(no_mangle)]
-pub extern "C" fn residues_multiple(
+pub fn residues_multiple(
     p: u32,
     n: u32,
     r: u32,
@@ -126,8 +98,7 @@ pub extern "C" fn residues_multiple(
     check_numbers::pack(call_transpose::multiple(p, n, r, s, c, table, res))
 }
 
-#[unsafe(no_mangle)]
-pub extern "C" fn residues_sum(
+pub fn residues_sum(
     p: u32,
     n: u32,
     r1: u32,
@@ -144,8 +115,7 @@ pub extern "C" fn residues_sum(
     check_numbers::pack(call_pair::sum(p, n, r1, s1, r2, s2, first, second, res))
 }
 
-#[unsafe(no_mangle)]
-pub extern "C" fn residues_product(
+pub fn residues_product(
     p: u32,
     n: u32,
     r1: u32,
@@ -162,8 +132,7 @@ pub extern "C" fn residues_product(
     check_numbers::pack(call_pair::product(p, n, r1, s1, r2, s2, first, second, res))
 }
 
-#[unsafe(no_mangle)]
-pub extern "C" fn residues_solve(
+pub fn residues_solve(
     p: u32,
     n: u32,
     r: u32,
@@ -180,8 +149,7 @@ pub extern "C" fn residues_solve(
     check_numbers::pack(call_solve::solve(p, n, r, s, table, column, work, res))
 }
 
-#[unsafe(no_mangle)]
-pub extern "C" fn residues_solve_dense(
+pub fn residues_solve_dense(
     p: u32,
     n: u32,
     r: u32,
@@ -198,38 +166,21 @@ pub extern "C" fn residues_solve_dense(
     check_numbers::pack(call_dense::solve_dense(p, n, r, s, table, column, square, res))
 }
 
-#[unsafe(no_mangle)]
-pub extern "C" fn residues_inverse(
-    p: u32,
-    n: u32,
-    r: u32,
-    s: u32,
-    table: &[u32],
-    res: &mut [u32],
-) -> u64
+pub fn residues_inverse(p: u32, n: u32, r: u32, s: u32, table: &[u32], res: &mut [u32]) -> u64
     ensures value { result ≡ packed (inverse_reply p n (tab r s table.now) res.old) }
     ensures res_after { res.new ≡ inverse_after p n (tab r s table.now) res.old }
 {
     check_numbers::pack(call_solve::inverse(p, n, r, s, table, res))
 }
 
-#[unsafe(no_mangle)]
-pub extern "C" fn residues_kernel(
-    p: u32,
-    n: u32,
-    r: u32,
-    s: u32,
-    table: &[u32],
-    res: &mut [u32],
-) -> u64
+pub fn residues_kernel(p: u32, n: u32, r: u32, s: u32, table: &[u32], res: &mut [u32]) -> u64
     ensures value { result ≡ packed (kernel_reply p n (tab r s table.now) res.old) }
     ensures res_after { res.new ≡ kernel_after p n (tab r s table.now) res.old }
 {
     check_numbers::pack(call_kernel::kernel(p, n, r, s, table, res))
 }
 
-#[unsafe(no_mangle)]
-pub extern "C" fn residues_kernel_check(
+pub fn residues_kernel_check(
     p: u32,
     n: u32,
     r: u32,
@@ -243,31 +194,21 @@ pub extern "C" fn residues_kernel_check(
     check_numbers::pack(call_kernel::kernel_check(p, n, r, s, k, table, column))
 }
 
-#[unsafe(no_mangle)]
-pub extern "C" fn residues_read_file(file: &[u8], res: &mut [u32]) -> u64
+pub fn residues_read_file(file: &[u8], res: &mut [u32]) -> u64
     ensures value { result ≡ packed (read_reply file.now res.old) }
     ensures res_after { res.new ≡ read_after file.now res.old }
 {
     check_numbers::pack(call_file::read(file, res))
 }
 
-#[unsafe(no_mangle)]
-pub extern "C" fn residues_write_file(
-    p: u32,
-    n: u32,
-    r: u32,
-    s: u32,
-    table: &[u32],
-    file: &mut [u8],
-) -> u64
+pub fn residues_write_file(p: u32, n: u32, r: u32, s: u32, table: &[u32], file: &mut [u8]) -> u64
     ensures value { result ≡ packed (write_reply p n (tab r s table.now) file.old) }
     ensures file_after { file.new ≡ write_after p n (tab r s table.now) file.old }
 {
     check_numbers::pack(call_file::write(p, n, r, s, table, file))
 }
 
-#[unsafe(no_mangle)]
-pub extern "C" fn residues_fractions(
+pub fn residues_fractions(
     p: u32,
     q: u32,
     n: u32,
