@@ -1,15 +1,7 @@
--- `residues::residues_apply` meets its contract.
-use Rattle.std.proofs.Common.{ap, ◌∙◌}
+-- The parts of the reply have room in 64 bits.
 use Rattle.table.specs.Words.{table}
-use Rattle.table.specs.Replies.{packed}
 use Rattle.table.proofs.PackedProof.{replies}
 use Rattle.residues.proofs.residues_apply.Goals as goal
 
 pub pack-requires : goal.pack-requires
 pack-requires c = let a = c.args in rw c.apply.ensures.result_value ((replies a.p a.n (table a.r a.s a.table.now)).apply a.column.now a.res.now)
-
-pub returns : goal.returns
-returns c = record {
-  value = c.pack.ensures ∙ ap packed c.apply.ensures.result_value;
-  res_after = c.apply.ensures.res_after;
-}

@@ -1,15 +1,7 @@
--- `residues::residues_inverse` meets its contract.
-use Rattle.std.proofs.Common.{ap, ◌∙◌}
+-- The parts of the reply have room in 64 bits.
 use Rattle.table.specs.Words.{table}
-use Rattle.table.specs.Replies.{packed}
 use Rattle.table.proofs.PackedProof.{replies}
 use Rattle.residues.proofs.residues_inverse.Goals as goal
 
 pub pack-requires : goal.pack-requires
 pack-requires c = let a = c.args in rw c.inverse.ensures.result_value ((replies a.p a.n (table a.r a.s a.table.now)).inverse a.res.now)
-
-pub returns : goal.returns
-returns c = record {
-  value = c.pack.ensures ∙ ap packed c.inverse.ensures.result_value;
-  res_after = c.inverse.ensures.res_after;
-}
