@@ -1,5 +1,5 @@
 -- The dense solve's reply and buffers, from what its parts answer and leave.
-use Rattle.std.specs.Prelude.{Bool, true, false, ◌≢◌, ◌≡◌, ℕ, ◌*◌, ◌<◌, drop}
+use Rattle.std.specs.Prelude.{Bool, true, false, ◌≢◌, ◌≡◌, ℕ, ◌*◌, drop}
 use Rattle.std.proofs.Math.Bool.{not}
 use mathlib.Core.List.{List, [], ◌∷◌, ◌++◌}
 use Rattle.std.proofs.Common.{inl, inr, ap, ◌∙◌, arith}

@@ -1,5 +1,5 @@
 -- The call's promises hold.
-use Rattle.std.specs.Prelude.{Bool, true, false, ◌||◌, ◌≢◌, ◌↔◌, ◌≡◌, ltb, ℤ, pos, length, drop}
+use Rattle.std.specs.Prelude.{Bool, true, false, ◌||◌, ◌≢◌, ◌↔◌, ◌≡◌, ltb, ℤ, pos, length}
 use Rattle.std.proofs.Math.Path.{refl, ap, ap₂}
 use Rattle.std.proofs.Common.{sym, ◌∙◌}
 use mathlib.Core.List.{List, ◌∷◌, ◌++◌}

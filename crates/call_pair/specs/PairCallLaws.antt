@@ -1,5 +1,5 @@
 -- A call on two tables: what the modulus and the writer of the words ask of it, and what it leaves.
-use Rattle.std.specs.Prelude.{◌≢◌, ◌≡◌, ℕ, ◌+◌, ◌*◌, ◌<◌, length, drop}
+use Rattle.std.specs.Prelude.{◌≢◌, ◌≡◌, ℕ, ◌+◌, ◌*◌, length, drop}
 use Rattle.std.proofs.Common.{sym, ap, ◌∙◌, arith}
 use mathlib.Core.List.{List, [], ◌++◌}
 use Rattle.field.specs.Residue.{prime_pos}

@@ -1,13 +1,11 @@
 -- What the calls leave in the result: from what the row writers leave to the definitions.
-use Rattle.std.specs.Prelude.{◌≢◌, ◌≡◌, ℕ, ◌+◌, ◌*◌, ◌≤◌, length, drop}
-use Rattle.std.proofs.Common.{sym, ap₂, ◌∙◌, arith, length-append, length-drop, eq-eqb}
+use Rattle.std.specs.Prelude.{◌≡◌, ℕ, ◌*◌, length}
+use Rattle.std.proofs.Common.{◌∙◌}
 use Rattle.std.proofs.Math.Path.{ap}
-use mathlib.Core.List.{List, [], ◌++◌}
+use mathlib.Core.List.{List, []}
 use Rattle.table.specs.Words.{table, width}
 use Rattle.table.proofs.WordLaws.{width_swap, length_table}
-use Rattle.table.specs.Replies.{Reply, Accepted, after}
 use Rattle.table.specs.Results.{transpose_w, multiple_w}
-use Rattle.table.proofs.CallLaws.{kept}
 
 module _ (P N r s : ℕ) (t : List ℕ) where
   pub transpose_length : length (transpose_w P N (table r s t)) ≡ N * width r s

@@ -3,7 +3,6 @@
 use Rattle.std.proofs.Common.{◌≡◌, refl, ◌∙◌, zero-le, arith, rules, length-set, w32, to_z, of_z}
 use Rattle.lists.specs.Writing.{tabulate_more}
 use Rattle.table.proofs.WordLaws.{place_below}
-use Rattle.field_fractions.specs.Fraction.{numerator, denominator}
 use Rattle.call_fractions.specs.FractionCall.{numerators_w, denominators_w}
 use Rattle.call_fractions.proofs.put_fractions.Invariants.{numerator_at, denominator_at}
 use Rattle.call_fractions.proofs.put_fractions.Goals as goal
