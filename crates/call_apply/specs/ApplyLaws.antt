@@ -16,7 +16,7 @@ use Rattle.block.specs.Block.{along, Within}
 use Rattle.row_halves.specs.declared.Half.{Half}
 use Rattle.row_halves.specs.Halves.{lower_half, upper_half, transposed_half}
 use Rattle.sweep_apply.specs.Half.{down_list, up_list}
-use Rattle.sweep_apply.specs.Link.{apply_is, apply_transposed_is}
+use Rattle.sweep_apply.proofs.Link.{apply_is, apply_transposed_is}
 
 -- What a sweep down leaves, and a sweep up after it.
 module _ (P n : ℕ) (d : List ℕ) (D : ℕ → (residues P).car) (out : List ℕ) (e : out ≡ tabulate n (λ k. val P (D k)) ++ drop n d) where

@@ -13,7 +13,7 @@ use Rattle.check_numbers.specs.Passed.{Good}
 use Rattle.row_halves.specs.declared.Half.{Half}
 use Rattle.row_halves.specs.Halves.{lower_half, upper_half}
 use Rattle.sweep_apply.specs.Reads.{lower_down}
-use Rattle.sweep_apply.specs.Link.{entry_below_is, entry_above_is, entry_diagonal_is}
+use Rattle.sweep_apply.proofs.Link.{entry_below_is, entry_above_is, entry_diagonal_is}
 use Rattle.sweep_entry.specs.Walk.{below_word, above_word}
 
 -- y answers the checks: a refusal is the call's reply; where they pass, the reply has the entry

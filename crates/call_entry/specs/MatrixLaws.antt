@@ -15,7 +15,7 @@ use Rattle.table.proofs.CallLaws.{accepted_leaves}
 use Rattle.row_halves.specs.declared.Half.{Half}
 use Rattle.row_halves.specs.Halves.{lower_half, upper_half, transposed_half}
 use Rattle.row_words.specs.PutLaws.{put_add}
-use Rattle.sweep_apply.specs.Link.{row_before_is, row_after_is}
+use Rattle.sweep_apply.proofs.Link.{row_before_is, row_after_is}
 use Rattle.sweep_entry.specs.Walk.{below_word, above_word}
 
 -- word j of row i
