@@ -1,3 +1,4 @@
+-- `field_values::show_inverse` meets its contract.
 use Rattle.std.proofs.Common.{arith, sym, ◌∙◌}
 use Rattle.field.specs.PrimeTest.{is_prime_lem}
 use Rattle.field_values.proofs.show_inverse.Goals as goal

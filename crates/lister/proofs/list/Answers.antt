@@ -1,3 +1,4 @@
+-- `lister::list` meets its contract.
 use Rattle.std.proofs.Common.{arith}
 use Rattle.lister.proofs.ReadGood.{read_head, read_good}
 use Rattle.lister.proofs.list.Goals as goal
