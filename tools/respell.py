@@ -1,7 +1,7 @@
 #!/usr/bin/env python3
 """Spells the repository's own definitions, lemmas and fields in snake case: addBelow and add-below become add_below.
 
-usage: tools/respell.py [ROOT]    once, after the port to today's Rattle, on the text as the port left it
+usage: tools/respell.py [ROOT [NAMES]]    once, after the port to today's Rattle, on the text as the port left it; NAMES gets a line for each name
 
 Names are those that specs/ declares. A name that a file imports from another library stays in that file. Types keep their capital. Where the new name
 would be that of a function, a crate or a clause of the code, or of another lemma, a definition takes _of behind it and a lemma _lem.
@@ -160,9 +160,10 @@ def main():
     for path, text in results.items():
         with open(path, "w", encoding="utf-8") as f:
             f.write(text)
-    with open("/tmp/respelled.tsv", "w", encoding="utf-8") as f:
-        f.writelines(f"{old}\t{name}\n" for old, name in sorted(new.items()))
-    print(f"respell: {len(new)} names, {len(results)} files; the names: /tmp/respelled.tsv")
+    if len(sys.argv) > 2:
+        with open(sys.argv[2], "w", encoding="utf-8") as f:
+            f.writelines(f"{old}\t{name}\n" for old, name in sorted(new.items()))
+    print(f"respell: {len(new)} names, {len(results)} files")
 
 
 main()
