@@ -1,17 +1,20 @@
 -- The two applies: what their sweeps leave, and what is left of the result.
 use Rattle.std.specs.Prelude.{◌≡◌, List, ◌++◌, ℕ, ◌+◌, ◌*◌, ◌<◌, ◌≤◌, length, get_or, drop}
-use Rattle.std.proofs.Common.{ap, ap₂, ◌∙◌, arith, drop_at}
+use Rattle.std.proofs.Common.{refl, ap, ap₂, ◌∙◌, arith, drop_at}
 use Rattle.std.proofs.Math.Path.{fun_ext}
 use Rattle.algebra.specs.Matrix.{Matrix, sends}
-use Rattle.field.specs.Residue.{residues, res, val, res_val, val_below}
+use Rattle.field.specs.Fit.{Allowed}
+use Rattle.field.specs.Residue.{residues, res, val, res_val, val_below, prime_pos}
 use Rattle.lists.specs.Lists.{tabulate}
 use Rattle.lists.specs.ListLaws.{length_tabulate, get_d_here, tabulate_same}
 use Rattle.table.specs.Words.{Table, table, width, matrix_of, first_bad_place_of}
 use Rattle.table.proofs.WordLaws.{place_below}
-use Rattle.table.specs.Replies.{Accepted}
+use Rattle.table.specs.Replies.{Accepted, accept}
 use Rattle.table.specs.Results.{column, apply_w, apply_transposed_w}
-use Rattle.table.specs.Calls.{apply_reply, apply_after, apply_transposed_after}
-use Rattle.table.proofs.CallLaws.{accepted_leaves, written_length}
+use Rattle.table.specs.Calls.{apply_checks, apply_reply, apply_after, apply_transposed_after}
+use Rattle.table.proofs.CallLaws.{AllClear, accepted_leaves, written_length}
+use Rattle.check_numbers.specs.CheckLaws.{accepts}
+use Rattle.check_numbers.specs.Passed.{Good, apply_passed}
 use Rattle.block.specs.Block.{along, Within}
 use Rattle.row_halves.specs.declared.Half.{Half}
 use Rattle.row_halves.specs.Halves.{lower_half, upper_half, transposed_half}
@@ -64,6 +67,18 @@ module _ (P N r s : ℕ) (t x d out out2 : List ℕ) (w : ℕ) (h k : Half) (ew 
       let f' : out2 ≡ up_list P N (width r s) t (transposed_half (lower_half r)) x out = rw (ew, ek) at f in
       two_sweeps P N d _ out e' _ _ out2 f'
       (λ i l. apply_transposed_is P r s t N (along P x 0 1) i l ∙ sends_column P N (λ i j. matrix_of P N (table r s t) j i) x i)
+
+-- what their checks have shown, where none finds anything: what the modulus asks, and the sweeps by the modulus that code holds
+module _ (P N : ℕ) (A : Table) (x d : List ℕ) (clear : AllClear (apply_checks P N A x d)) where
+  shown : Good P N A × (N ≤ length x) × (N ≤ length d) × (first_bad_place_of P N x ≡ 0)
+  unfolding apply_reply
+  shown = apply_passed P N A x d (accepts (apply_checks P N A x d) (accept 0) refl clear)
+
+  pub allowed : Allowed P
+  allowed = let g = shown.0 in (prime_pos P g.prime, omega (arith, g.limit))
+
+  pub asked : (m : ℕ) → m ≡ P → Good m N A × Within m x 0 N × (N ≤ length d)
+  asked m e = rw e (shown.0, column_reads P N x shown.1 shown.3, shown.2)
 
 -- what the calls leave, where their checks have passed; m is the modulus that code holds
 module _ (P N : ℕ) (A : Table) (x d out : List ℕ) (m : ℕ) (e : m ≡ P) (ok : Accepted (apply_reply P N A x d)) where

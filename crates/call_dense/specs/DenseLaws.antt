@@ -7,7 +7,7 @@ use Rattle.std.proofs.Math.Path.{refl, sym}
 use Rattle.field.specs.Residue.{prime_pos}
 use Rattle.lists.specs.Lists.{tabulate}
 use Rattle.lists.specs.ListLaws.{length_tabulate}
-use Rattle.field.specs.Ready.{Allowed}
+use Rattle.field.specs.Fit.{Allowed}
 use Rattle.table.specs.Words.{Table}
 use Rattle.table.specs.Replies.{Reply, Check, check, accept, refuse, answer}
 use Rattle.table.proofs.CallLaws.{number_is, other_number, refused_leaves, accepted_leaves}

@@ -2,14 +2,13 @@
 #![tactic(auto)]
 
 ghost use Rattle.std.specs.Prelude.{true, false, ◌≡◌, ℕ, ◌*◌, ◌<◌, ◌≤◌, length, get_or};
-ghost use Rattle.field.specs.Ready.{Ready};
 ghost use Rattle.lists.specs.Lists.{tabulate, begun};
 ghost use Rattle.table.specs.Words.{table as tab};
 ghost use Rattle.check_numbers.specs.Replied.{replied};
 ghost use Rattle.check_numbers.specs.Passed.{Good};
 ghost use Rattle.table_dense.specs.DenseCall.{nonsingular_w, dense_w, dense_reply, dense_after, square_after_of};
 
-use check_numbers::Reply;
+use check_numbers::Refusal;
 use field::Modulus;
 
 // After the checks: the solution to the result, or false and the result as it was. The right-hand side is kept in a private column, since the result is
@@ -24,7 +23,7 @@ fn solve_words(
     square: &mut [u32],
     res: &mut [u32],
 ) -> bool
-    requires { Ready m × Good m.p n (tab r s table.now) × (n ≤ 256) × (n ≤ length column.now)
+    requires { Good m.p n (tab r s table.now) × (n ≤ 256) × (n ≤ length column.now)
         × ((k : ℕ) → k < n → get_or column.now k 0 < m.p)
         × (n * n ≤ length square.old) × (n ≤ length res.old) }
     ensures value { result ≡ nonsingular_w m.p n (tab r s table.now) }
@@ -55,7 +54,7 @@ pub fn solve_dense(
     column: &[u32],
     square: &mut [u32],
     res: &mut [u32],
-) -> Reply
+) -> Result<u32, Refusal>
     ensures result_value { replied result
         ≡ dense_reply p n (tab r s table.now) column.now square.old res.old }
     ensures square_after { square.new ≡ square_after_of p n (tab r s table.now) column.now square.old res.old }
@@ -63,7 +62,7 @@ pub fn solve_dense(
 {
     let size = n as usize;
     let need = size * size;
-    let y = check_table::check_system(
+    check_table::check_system(
         p,
         n,
         r,
@@ -74,16 +73,13 @@ pub fn solve_dense(
         square.len(),
         need,
         res.len(),
-    );
-    if y.number != 0 {
-        return y;
-    }
+    )?;
     let m = Modulus::new(p);
     let lower = r as usize;
     let upper = s as usize;
     let found = solve_words(m, size, lower, upper, table, column, square, res);
     if !found {
-        return check_numbers::refuse(7, 1, 0);
+        return Err(Refusal::Singular);
     }
-    y
+    Ok(0)
 }

@@ -9,11 +9,12 @@ use Rattle.table.specs.Words.{Used, width, place, row_gens, row_words_of, table_
 use Rattle.table.proofs.WordLaws.{row_length, row_same}
 use Rattle.table.specs.RowFile.{file_word, file_bytes, head_p, head_n, head_r, head_s, record_at_of, met, file_gens, first_broken_of, first_bad_in_file, read_w}
 use Rattle.table.proofs.RowFileLaws.{file_words_below}
-use Rattle.table.specs.Replies.{Accepted}
-use Rattle.table.specs.Calls.{read_reply, read_after}
+use Rattle.table.specs.Replies.{Accepted, accept}
+use Rattle.table.specs.Calls.{read_checks, read_reply, read_after}
 use Rattle.table.proofs.AcceptsProof.{read_accepts}
 use Rattle.table.proofs.FileLaws.{read_length, read_chain}
-use Rattle.table.proofs.CallLaws.{accepted_leaves, written_length}
+use Rattle.table.proofs.CallLaws.{AllClear, accepted_leaves, written_length}
+use Rattle.check_numbers.specs.CheckLaws.{accepts}
 use Rattle.check_records.specs.Filed.{Headed}
 
 -- a word of row k, which is the record met after k others, and the row as it is read, by the size and the orders that code holds
@@ -71,3 +72,9 @@ module _ (f d : List ℕ) (ok : Accepted (read_reply f d)) (n r s : ℕ) (en : n
 
     pub read_leaves : out ≡ read_after f d
     read_leaves = accepted_leaves (read_reply f d) (read_w f) d out (n * width r s) ok full e
+
+-- the same where none of its checks finds anything
+pub clear_leaves : (f d : List ℕ) → AllClear (read_checks f d) → (n r s : ℕ) → n ≡ head_n f → r ≡ head_r f → s ≡ head_s f
+    → (out : List ℕ) → out ≡ read_w f ++ drop (n * width r s) d → out ≡ read_after f d
+unfolding read_reply
+clear_leaves f d clear = read_leaves f d (accepts (read_checks f d) (accept (head_p f)) refl clear)

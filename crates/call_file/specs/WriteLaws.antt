@@ -13,7 +13,11 @@ use Rattle.table.specs.Words.{table, Used, width, place, table_word, gens, row_g
 use Rattle.table.proofs.WordLaws.{room, row_length, row_same, used_below}
 use Rattle.table.specs.RowFile.{byte_of, bytes_of, file_bytes, write_w, words_of_file}
 use Rattle.table.proofs.RowFileLaws.{length_bytes, file_length}
-use Rattle.check_numbers.specs.Passed.{Good}
+use Rattle.table.specs.Replies.{Accepted, accept}
+use Rattle.table.specs.Calls.{write_checks, write_reply, write_after}
+use Rattle.table.proofs.CallLaws.{AllClear, accepted_leaves}
+use Rattle.check_numbers.specs.CheckLaws.{accepts}
+use Rattle.check_numbers.specs.Passed.{Good, write_passed}
 use Rattle.row_words.specs.RowLaws.{lent_word}
 use Rattle.file_words.specs.ByteLaws.{bytes_append, bytes_word, bytes_join}
 
@@ -31,7 +35,7 @@ head_bytes p n r s o d a b c e f q1 q2 q3 q4 q5 =
 abbrev next_of : (n k : ℕ) → ℕ
 next_of n k = pick (eqb (suc k) n) 0 (suc (suc k))
 
-abbrev record_of : (P n r s : ℕ) (t : List ℕ) → ℕ → List ℕ
+abbrev pub record_of : (P n r s : ℕ) (t : List ℕ) → ℕ → List ℕ
 record_of P n r s t k = bytes_of (next_of n k ∷ row_words_of P n r s k (gens P n (table r s t) k))
 
 pub next_last : (n k : ℕ) {v : ℕ} → k + 1 ≡ n → v ≡ 0 → v ≡ next_of n k
@@ -40,7 +44,7 @@ next_last n k e q = let z : suc k ≡ n = omega arith in rw (eq-eqb (suc k) n z)
 pub next_more : (n k : ℕ) {v : ℕ} → k + 1 ≢ n → v ≡ k + 2 → v ≡ next_of n k
 next_more n k e q = rw (ne_eqb (suc k) n (λ z. e (omega arith))) (omega arith)
 
-length_record : (P n r s : ℕ) (t : List ℕ) (k : ℕ) → length (record_of P n r s t k) ≡ 4 * (1 + width r s)
+pub length_record : (P n r s : ℕ) (t : List ℕ) (k : ℕ) → length (record_of P n r s t k) ≡ 4 * (1 + width r s)
 length_record P n r s t k =
     let l = row_length P n r s k (gens P n (table r s t) k) in
     length_bytes (next_of n k ∷ row_words_of P n r s k (gens P n (table r s t) k)) ∙ omega arith
@@ -161,3 +165,18 @@ module _ (n r s : ℕ) (d : List ℕ) (f : file_bytes n r s ≤ length d) where
     where
       go : (w : ℕ) → 20 + n * (4 * (1 + w)) ≡ 4 * (5 + n * (1 + w))
       go w = omega arith
+
+-- what a call leaves where none of its checks finds anything
+module _ (P n r s : ℕ) (t d : List ℕ) (clear : AllClear (write_checks P n (table r s t) d)) where
+  accepted : Accepted (write_reply P n (table r s t) d)
+  unfolding write_reply
+  accepted = accepts (write_checks P n (table r s t) d) (accept 0) refl clear
+
+  pub write_leaves : (h b : List ℕ) → h ≡ head_of P n r s ++ drop 20 d → length h ≡ length d
+      → ((p : ℕ) → 0 < p → first_bad_of p n (table r s t) ≡ 0
+      → b ≡ rows_of n (record_of p n r s t) ++ drop (n * (4 * (1 + width r s))) (mid_of 20 (length h - 20) h))
+      → put_mid 20 (length h - 20) h b ≡ write_after P n (table r s t) d
+  write_leaves h b e l q =
+      let w = write_passed P n (table r s t) d accepted in
+      accepted_leaves (write_reply P n (table r s t) d) (write_w P n (table r s t)) d _ (file_bytes n r s) accepted (file_long P n r s t w.0)
+      (rw l (file_left_lem n r s d w.1 P t h b e (rw (← l) (q P (prime_pos P w.0.prime) w.0.words))))

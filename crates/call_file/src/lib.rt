@@ -5,14 +5,13 @@ ghost use Rattle.std.specs.Prelude.{◌≡◌, [], ◌∷◌, ℕ, suc, ◌+◌,
 ghost use Rattle.algebra.specs.Generators.{pick};
 ghost use Rattle.lists.specs.Lists.{rows_of, begun};
 ghost use Rattle.table.specs.Words.{table as tab, width, gens, row_words_of, first_bad_of};
-ghost use Rattle.table.specs.Replies.{reply};
 ghost use Rattle.table.specs.RowFile.{bytes_of, file_bytes, head_p, first_broken_of, first_bad_in_file, read_w};
 ghost use Rattle.table.specs.Calls.{read_reply, read_after, write_reply, write_after};
 ghost use Rattle.table.specs.Limits.{most_size};
 ghost use Rattle.check_numbers.specs.Replied.{replied};
 ghost use Rattle.check_records.specs.Filed.{Headed};
 
-use check_numbers::Reply;
+use check_numbers::Refusal;
 
 // ---- Reading.
 
@@ -24,34 +23,25 @@ fn read_rows(f: &[u8], n: usize, r: usize, s: usize, res: &mut [u32])
 {
     let w = check_numbers::row_width(r, s);
     let mut m = file_words::word(f, 4) as usize;
-    let mut at = 0;
-    let mut k = 0;
-    while k < n {
-        let end = at + w;
-        let from = 4 * check_records::record_at(m, 1 + w);
-        let to = from + 4 * (1 + w);
-        let part = &f[from..to];
-        row_record::read_row(n, r, s, k, part, &mut res[at..end]);
+    for k in 0..n {
+        let part = check_records::record(f, m, 1 + w);
+        row_record::read_row(n, r, s, k, part, &mut res[k * w..(k + 1) * w]);
         m = file_words::word(part, 0) as usize;
-        at = end;
-        k += 1;
     }
 }
 
-// Reads a file into a table; the reply's value is its prime.
-pub fn read(file: &[u8], res: &mut [u32]) -> Reply
+// Reads a file into a table; the value is its prime.
+#[tactic(auto, unfolding(table::specs::Calls::read_reply, table::specs::Replies::answer))]
+pub fn read(file: &[u8], res: &mut [u32]) -> Result<u32, Refusal>
     ensures result_value { replied result ≡ read_reply file.now res.old }
     ensures res_after { res.new ≡ read_after file.now res.old }
 {
-    let y = check_file::check_read(file, res.len());
-    if y.number != 0 {
-        return y;
-    }
+    let p = check_file::check_read(file, res.len())?;
     let n = file_words::word(file, 1) as usize;
     let r = file_words::word(file, 2) as usize;
     let s = file_words::word(file, 3) as usize;
     read_rows(file, n, r, s, res);
-    y
+    Ok(p)
 }
 
 // ---- Writing.
@@ -77,38 +67,29 @@ fn write_rows(n: usize, r: usize, s: usize, t: &[u32], out: &mut [u8])
 {
     let w = check_numbers::row_width(r, s);
     let size = 4 * (1 + w);
-    let mut at = 0;
-    let mut to = 0;
-    let mut k = 0;
-    while k < n {
-        let end = at + w;
-        let to_end = to + size;
+    for k in 0..n {
         let next = if k + 1 == n { 0 } else { k + 2 };
-        let row = &t[at..end];
-        row_record::write_row(n, r, s, k, next as u32, row, &mut out[to..to_end]);
-        at = end;
-        to = to_end;
-        k += 1;
+        let row = &t[k * w..(k + 1) * w];
+        row_record::write_row(
+            n,
+            r,
+            s,
+            k,
+            next as u32,
+            row,
+            &mut out[k * size..(k + 1) * size],
+        );
     }
 }
 
 // Writes a table as a file: the prime in full, the records in the order of the rows, unused words 0.
-pub fn write(p: u32, n: u32, r: u32, s: u32, table: &[u32], file: &mut [u8]) -> Reply
+#[tactic(auto, unfolding(table::specs::Calls::write_reply, table::specs::Replies::answer))]
+pub fn write(p: u32, n: u32, r: u32, s: u32, table: &[u32], file: &mut [u8]) -> Result<u32, Refusal>
     ensures result_value { replied result ≡ write_reply p n (tab r s table.now) file.old }
     ensures file_after { file.new ≡ write_after p n (tab r s table.now) file.old }
 {
-    let y = check_file::check_write(p, n, r, s, table, file.len());
-    if y.number != 0 {
-        return y;
-    }
-    let len = file.len();
+    check_file::check_write(p, n, r, s, table, file.len())?;
     write_head(p, n, r, s, file);
-    write_rows(
-        n as usize,
-        r as usize,
-        s as usize,
-        table,
-        &mut file[20..len],
-    );
-    y
+    write_rows(n as usize, r as usize, s as usize, table, &mut file[20..]);
+    Ok(0)
 }

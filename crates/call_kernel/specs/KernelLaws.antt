@@ -4,7 +4,7 @@ use Rattle.std.proofs.Math.Path.{refl}
 use Rattle.std.proofs.Common.{sym, ap, ◌∙◌, arith, eq-eqb, ne_eqb}
 use Rattle.field.specs.Residue.{prime_pos}
 use Rattle.lists.specs.ListLaws.{length_tabulate}
-use Rattle.field.specs.Ready.{Allowed}
+use Rattle.field.specs.Fit.{Allowed}
 use Rattle.table.specs.Words.{Table}
 use Rattle.table.specs.Results.{first_zero_of}
 use Rattle.table.specs.Replies.{Reply, Check, check, accept, refuse, answer}

@@ -12,7 +12,7 @@ use Rattle.algebra.specs.Generators.{pick}
 use Rattle.field.specs.Residue.{residues, val, prime_pos}
 use Rattle.lists.specs.Lists.{some}
 use Rattle.lists.specs.ListLaws.{get_d_here, some_same}
-use Rattle.field.specs.Ready.{Allowed}
+use Rattle.field.specs.Fit.{Allowed}
 use Rattle.table.specs.Words.{Table, matrix_of}
 use Rattle.table.proofs.Corners.{corner_is, corner_words_lem}
 use Rattle.table.specs.Results.{column, apply_w}

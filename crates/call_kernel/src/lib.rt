@@ -3,7 +3,6 @@
 #![tactic(auto)]
 
 ghost use Rattle.std.specs.Prelude.{◌≡◌};
-ghost use Rattle.field.specs.Ready.{Ready};
 ghost use Rattle.table.specs.Words.{table as tab};
 ghost use Rattle.check_numbers.specs.Replied.{replied};
 ghost use Rattle.block.specs.Block.{Within};
@@ -11,33 +10,34 @@ ghost use Rattle.check_numbers.specs.Passed.{Good};
 ghost use Rattle.table_kernel.specs.KernelCall.{kernel_reply, kernel_after, shows_reply};
 ghost use Rattle.call_kernel.specs.ShowsLaws.{some_sent};
 
-use check_numbers::Reply;
+use check_numbers::Refusal;
 use field::Modulus;
 
-pub fn kernel(p: u32, n: u32, r: u32, s: u32, table: &[u32], res: &mut [u32]) -> Reply
+pub fn kernel(
+    p: u32,
+    n: u32,
+    r: u32,
+    s: u32,
+    table: &[u32],
+    res: &mut [u32],
+) -> Result<u32, Refusal>
     ensures result_value { replied result ≡ kernel_reply p n (tab r s table.now) res.old }
     ensures res_after { res.new ≡ kernel_after p n (tab r s table.now) res.old }
 {
     let size = n as usize;
-    let y = check_table::check_result(p, n, r, s, table, size, res.len());
-    if y.number != 0 {
-        return y;
-    }
+    check_table::check_result(p, n, r, s, table, size, res.len())?;
     let m = Modulus::new(p);
-    let lower = r as usize;
-    let upper = s as usize;
-    let row = sweep_kernel::kernel(m, size, lower, upper, table, res);
-    if row == 0 {
-        return check_numbers::refuse(13, 0, 0);
+    match sweep_kernel::kernel(m, size, r as usize, s as usize, table, res) {
+        Some(k) => Ok(k as u32 + 1),
+        None => Err(Refusal::NoZeroPivot),
     }
-    check_numbers::accept(row as u32)
 }
 
 // ---- The check.
 
 // Whether a good table of n rows sends the column to anything but zeros, that is, to a word of 1 or more.
 fn sends_some(m: Modulus, n: usize, r: usize, s: usize, table: &[u32], column: &[u32]) -> bool
-    requires { Ready m × Good m.p n (tab r s table.now) × Within m.p column.now 0 n }
+    requires { Good m.p n (tab r s table.now) × Within m.p column.now 0 n }
     ensures { result ≡ some_sent m.p n (tab r s table.now) column.now }
 {
     let mut out = [0u32; 1024];
@@ -45,20 +45,25 @@ fn sends_some(m: Modulus, n: usize, r: usize, s: usize, table: &[u32], column: &
     check_words::bad_words(1, &out, 0, n)
 }
 
-pub fn kernel_check(p: u32, n: u32, r: u32, s: u32, k: u32, table: &[u32], column: &[u32]) -> Reply
+pub fn kernel_check(
+    p: u32,
+    n: u32,
+    r: u32,
+    s: u32,
+    k: u32,
+    table: &[u32],
+    column: &[u32],
+) -> Result<u32, Refusal>
     ensures { replied result ≡ shows_reply p n (tab r s table.now) k column.now }
 {
-    let y = check_kernel::check_shows(p, n, r, s, k, table, column);
-    if y.number != 0 {
-        return y;
-    }
+    check_kernel::check_shows(p, n, r, s, k, table, column)?;
     let size = k as usize;
     if column[size - 1] != 1 {
-        return check_numbers::accept(0);
+        return Ok(0);
     }
     let m = Modulus::new(p);
     if sends_some(m, size, r as usize, s as usize, table, column) {
-        return check_numbers::accept(0);
+        return Ok(0);
     }
-    check_numbers::accept(1)
+    Ok(1)
 }

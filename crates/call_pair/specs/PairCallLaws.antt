@@ -3,7 +3,7 @@ use Rattle.std.specs.Prelude.{◌≢◌, ◌≡◌, ℕ, ◌+◌, ◌*◌, lengt
 use Rattle.std.proofs.Common.{sym, ap, ◌∙◌, arith}
 use mathlib.Core.List.{List, [], ◌++◌}
 use Rattle.field.specs.Residue.{prime_pos}
-use Rattle.field.specs.Ready.{Allowed}
+use Rattle.field.specs.Fit.{Allowed}
 use Rattle.table.specs.Words.{Table, width}
 use Rattle.table.proofs.WordLaws.{length_table}
 use Rattle.table.specs.Replies.{Reply, Accepted, accept, answer, after}

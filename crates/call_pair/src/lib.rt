@@ -1,14 +1,15 @@
 // The calls on two tables, sum and product: each runs its checks in the refusal table's order, then does its work. No contract asks anything of the caller.
-#![tactic(auto)]
+#![tactic(auto, unfolding(table::specs::Replies::answer, table::specs::Calls::sum_reply, table::specs::Calls::product_reply))]
 
 ghost use Rattle.std.specs.Prelude.{◌≡◌};
 ghost use Rattle.table.specs.Words.{table as tab};
 ghost use Rattle.table.specs.Calls.{sum_reply, sum_after, product_reply, product_after};
 ghost use Rattle.check_numbers.specs.Replied.{replied};
 
-use check_numbers::Reply;
+use check_numbers::Refusal;
 use field::Modulus;
 
+// The table of the sum, to the result.
 pub fn sum(
     p: u32,
     n: u32,
@@ -19,14 +20,11 @@ pub fn sum(
     first: &[u32],
     second: &[u32],
     res: &mut [u32],
-) -> Reply
+) -> Result<u32, Refusal>
     ensures result_value { replied result ≡ sum_reply p n (tab r1 s1 first.now) (tab r2 s2 second.now) res.old }
     ensures res_after { res.new ≡ sum_after p n (tab r1 s1 first.now) (tab r2 s2 second.now) res.old }
 {
-    let y = check_pair::check_pair(p, n, r1, s1, r2, s2, first, second, res.len());
-    if y.number != 0 {
-        return y;
-    }
+    check_pair::check_pair(p, n, r1, s1, r2, s2, first, second, res.len())?;
     let m = Modulus::new(p);
     let size = n as usize;
     let low1 = r1 as usize;
@@ -34,9 +32,10 @@ pub fn sum(
     let low2 = r2 as usize;
     let upp2 = s2 as usize;
     sweep_sum::sum(m, size, low1, upp1, first, low2, upp2, second, res);
-    y
+    Ok(0)
 }
 
+// The table of the product, to the result.
 pub fn product(
     p: u32,
     n: u32,
@@ -47,14 +46,11 @@ pub fn product(
     first: &[u32],
     second: &[u32],
     res: &mut [u32],
-) -> Reply
+) -> Result<u32, Refusal>
     ensures result_value { replied result ≡ product_reply p n (tab r1 s1 first.now) (tab r2 s2 second.now) res.old }
     ensures res_after { res.new ≡ product_after p n (tab r1 s1 first.now) (tab r2 s2 second.now) res.old }
 {
-    let y = check_pair::check_pair(p, n, r1, s1, r2, s2, first, second, res.len());
-    if y.number != 0 {
-        return y;
-    }
+    check_pair::check_pair(p, n, r1, s1, r2, s2, first, second, res.len())?;
     let m = Modulus::new(p);
     let size = n as usize;
     let low1 = r1 as usize;
@@ -62,5 +58,5 @@ pub fn product(
     let low2 = r2 as usize;
     let upp2 = s2 as usize;
     sweep_product::product(m, size, low1, upp1, first, low2, upp2, second, res);
-    y
+    Ok(0)
 }

@@ -3,7 +3,7 @@ use Rattle.std.specs.Prelude.{◌≢◌, ◌≡◌, refl, ℕ, ◌+◌, ◌*◌,
 use Rattle.std.proofs.Common.{sym, ap, ◌∙◌, arith}
 use mathlib.Core.List.{List, [], ◌∷◌, ◌++◌}
 use Rattle.field.specs.Residue.{prime_pos}
-use Rattle.field.specs.Ready.{Allowed}
+use Rattle.field.specs.Fit.{Allowed}
 use Rattle.table.specs.Words.{Table, first_bad_place_of}
 use Rattle.table.proofs.WordLaws.{place_below, length_table}
 use Rattle.table.specs.Results.{first_zero_of, solve_w, work_w, inverse_w}

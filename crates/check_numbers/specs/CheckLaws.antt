@@ -1,5 +1,5 @@
 -- Laws that the checks' proofs share.
-use Rattle.std.specs.Prelude.{Bool, true, false, not, ◌≡◌, refl, List, [], ◌∷◌, ◌++◌, ◌⊎◌, ℕ, zero, suc, ◌+◌, ◌-◌, ◌*◌, ◌<◌, ◌≤◌, ltb, leb, length, get_or, take, drop}
+use Rattle.std.specs.Prelude.{Result, Ok, Err, Bool, true, false, not, ◌≡◌, refl, List, [], ◌∷◌, ◌++◌, ◌⊎◌, ℕ, zero, suc, ◌+◌, ◌-◌, ◌*◌, ◌<◌, ◌≤◌, ltb, leb, length, get_or, take, drop}
 use Rattle.std.proofs.Math.Bool.{◌||◌}
 use Rattle.std.proofs.Math.Path.{sym, ap₂, fun_ext}
 use Rattle.std.proofs.Common.{ap, ◌∙◌, inl, inr, le_antisymm, add-zero, add-suc, add_assoc, zero-mul, suc-mul, mul-le-mul, mul-le-mul_right, le_trans, add-one, arith, length-drop, length-take-le, get_or-take, get_or-drop, lt-ltb, le-ltb, le-leb}
@@ -11,7 +11,10 @@ use Rattle.lists.specs.Lists.{some}
 use Rattle.lists.specs.ListLaws.{or_none}
 use Rattle.table.specs.Words.{gap, shape, full, kinds, before, width, block_size, blocks_size, place, table, table_word, bad_block, bad_row_of, outer}
 use Rattle.table.proofs.WordLaws.{sizes_all, place_lt, gap_full, room, bad_same}
-use Rattle.table.specs.Replies.{Reply, reply}
+use Rattle.table.specs.Replies.{Reply, Check, Accepted, accept, reply, answer}
+use Rattle.table.proofs.CallLaws.{AllClear, all_clear, open_checks, number_is}
+use Rattle.check_numbers.specs.declared.Refusal.{Refusal}
+use Rattle.check_numbers.specs.Replied.{said, Checked}
 
 -- Tests.
 pub ltb_leb : (a b : ℕ) → ltb b a ≡ not (leb a b)
@@ -35,6 +38,14 @@ stop y z e h = sym (ap (λ (c : Bool). pick c y z) (sym e ∙ h))
 
 pub pass : {b c : Bool} (y : Reply) {v z : Reply} → b ≡ c → b ≡ false → v ≡ z → v ≡ pick c y z
 pass y {v} {z} e h q = q ∙ sym (ap (λ (c : Bool). pick c y z) (sym e ∙ h))
+
+-- What the answer of checks is: none finds anything, and then they accept whatever is accepted after them; or the first that does refuses.
+pub accepts : (cs : List Check) (v : Reply) → Accepted v → AllClear cs → Accepted (answer cs v)
+accepts cs v ok clear = number_is (open_checks cs v (all_clear cs clear)) ∙ ok
+
+pub answered : (cs : List Check) (r : Result (Unit {0}) Refusal) → Checked cs r → said r ≡ answer cs (accept 0)
+answered cs (Ok u) clear = sym (open_checks cs (accept 0) (all_clear cs clear))
+answered cs (Err refusal) stopped = stopped (accept 0)
 
 -- a reply by its parts
 pub reply_is : {n b k v n' b' k' v' : ℕ} → (n ≡ n') × (b ≡ b') × (k ≡ k') × (v ≡ v') → reply n b k v ≡ reply n' b' k' v'

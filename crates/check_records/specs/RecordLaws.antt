@@ -8,7 +8,7 @@ use Rattle.table.specs.Words.{width, place, Used, bad_row_of}
 use Rattle.table.proofs.WordLaws.{place_lt, room, bad_same}
 use Rattle.table.specs.RowFile.{file_word, file_bytes, head_p, head_r, head_s, record_at_of, met, first_broken_of, first_bad_in_file}
 use Rattle.table.proofs.RowFileLaws.{right_met}
-use Rattle.check_records.specs.Filed.{Headed}
+use Rattle.check_records.specs.Filed.{Headed, record_of}
 
 -- record m ends where m records end
 pub record_end : (m w : ℕ) → 1 ≤ m → 5 + (m - 1) * w + w ≡ 5 + m * w
@@ -79,3 +79,26 @@ module _ (f : List ℕ) (n r s : ℕ) (h : Headed f n r s) where
 
       pub bad_lent : (p : ℕ) → k < n → bad_row_of p n r s k (λ κ x y. file_word (part f i (1 + v)) (1 + place r s κ x y)) ≡ bad_met f p n r s k
       bad_lent p l = bad_same p n r s k l _ _ word_lent
+
+-- Record m of 1 + v words, as code lends it on: where it ends, the number that it begins with, and its row.
+lent_is : (f : List ℕ) (m w i : ℕ) → 5 + (m - 1) * w ≡ i → record_of f m w ≡ take (4 * i + 4 * w - 4 * i) (drop (4 * i) f)
+lent_is f m w i e = let z : 4 * w ≡ 4 * i + 4 * w - 4 * i = omega arith in rw (e, ← z) refl
+
+module _ (f : List ℕ) (n r s : ℕ) (h : Headed f n r s) (m v : ℕ) (low : 1 ≤ m) (q : v ≡ width r s) where
+  abbrev begin : ℕ
+  begin = 5 + (m - 1) * (1 + v)
+
+  pub record_fits : m ≤ n → length f ≡ file_bytes n r s → 4 * (5 + m * (1 + v)) ≤ length f
+  record_fits most long =
+      omega (arith, record_end m (1 + v) low, ends f n r s h m v begin low q (record_end m (1 + v) low) most long)
+
+  module _ (k : ℕ) (e : m ≡ met f k) where
+    pub record_next : file_word (record_of f m (1 + v)) 0 ≡ met f (k + 1)
+    record_next = rw (lent_is f m (1 + v) begin refl) (next_lent f n r s h m v begin low q (record_end m (1 + v) low) k e)
+
+    pub record_word : (κ : Kind) (x y : ℕ) → Used n r s k κ x y → file_word (record_of f m (1 + v)) (1 + place r s κ x y)
+        ≡ file_word f (record_at_of f (met f k) + (1 + place r s κ x y))
+    record_word κ x y u = rw (lent_is f m (1 + v) begin refl) (word_lent f n r s h m v begin low q (record_end m (1 + v) low) k e κ x y u)
+
+    pub record_bad : (p : ℕ) → k < n → bad_row_of p n r s k (λ κ x y. file_word (record_of f m (1 + v)) (1 + place r s κ x y)) ≡ bad_met f p n r s k
+    record_bad p l = bad_same p n r s k l _ _ record_word

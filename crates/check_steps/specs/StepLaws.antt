@@ -1,10 +1,14 @@
 -- A call's checks, one after the other: what a reply is where one stops the call, and where all pass.
-use Rattle.std.specs.Prelude.{Bool, true, false, ◌≢◌, ◌≡◌, refl, List, [], ◌∷◌, ◌++◌, ℕ, ◌<◌, ◌≤◌, ltb, leb}
+use Rattle.std.specs.Prelude.{Result, Ok, Err, IsErrAnd, Bool, true, false, ◌≢◌, ◌≡◌, refl, List, [], ◌∷◌, ◌++◌, ℕ, ◌<◌, ◌≤◌, ltb, leb}
 use Rattle.std.proofs.Common.{sym, ap, ◌∙◌, le_trans, arith, leb-true, lt-ltb, le-ltb}
 use Rattle.algebra.specs.Generators.{pick}
 use Rattle.table.specs.Limits.{standard, most_order, most_size}
 use Rattle.table.specs.Words.{Table}
 use Rattle.table.specs.Replies.{Reply, Check, check, accept, answer, NoFault, bad_size_of, bad_order}
+use Rattle.check_numbers.specs.declared.Refusal.{Refusal}
+use Rattle.check_numbers.specs.declared.Refusal.TheVariants.{Prime, Size, Orders, Short, Word, Factor, AddedOrders, ZeroPivot, Singular}
+use Rattle.check_numbers.specs.declared.Refusal.TheVariants.{Place, Length, Chain, SamePrimes, NoFraction, NoZeroPivot}
+use Rattle.check_numbers.specs.Replied.{refused, replied}
 use Rattle.check_steps.specs.Checked.{Sized}
 use Rattle.table.proofs.CallLaws.{refusing, passed, open_checks, refused_by, given, answer_append, both_hold}
 
@@ -65,3 +69,25 @@ row_found v m e h = lt-ltb 0 m (omega arith)
 
 pub row_none : (v m : ℕ) → v ≡ m → v ≤ 0 → ltb 0 m ≡ false
 row_none v m e h = le-ltb 0 m (omega arith)
+
+-- A refusal is no acceptance, and `?` hands it on.
+pub refuses : (r : Refusal) → (refused r).number ≢ 0
+refuses Prime e = absurd (omega arith)
+refuses Size e = absurd (omega arith)
+refuses (Orders b) e = absurd (omega arith)
+refuses (Short b) e = absurd (omega arith)
+refuses (Word b k) e = absurd (omega arith)
+refuses Factor e = absurd (omega arith)
+refuses AddedOrders e = absurd (omega arith)
+refuses (ZeroPivot k) e = absurd (omega arith)
+refuses Singular e = absurd (omega arith)
+refuses Place e = absurd (omega arith)
+refuses Length e = absurd (omega arith)
+refuses (Chain k) e = absurd (omega arith)
+refuses SamePrimes e = absurd (omega arith)
+refuses (NoFraction k) e = absurd (omega arith)
+refuses NoZeroPivot e = absurd (omega arith)
+
+pub handed : (r : Result ℕ Refusal) (e : Refusal) → IsErrAnd r (λ d. d ≡ e) → replied r ≡ refused e
+handed (Ok v) e h = absurd h
+handed (Err d) e h = ap refused h

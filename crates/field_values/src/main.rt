@@ -2,8 +2,8 @@
 #![tactic(auto)]
 
 ghost use Rattle.std.specs.Prelude.{◌<◌};
-ghost use Rattle.field.specs.Ready.{Ready};
 
+use field::Modulus;
 use std::io;
 
 // Small numbers, Carmichael numbers, a strong pseudoprime, squares of large primes of each residue prime to 30, products of two primes,
@@ -15,11 +15,28 @@ const NUMBERS: [u32; 47] = [
     2147483587, 2147483629, 2147483642, 2147483646, 2147483647,
 ];
 
-// Pairs of a prime and a number to invert.
-const PAIRS: [u32; 40] = [
-    2, 1, 3, 1, 3, 2, 7, 1, 7, 2, 7, 3, 7, 4, 7, 5, 7, 6, 2147483647, 1, 2147483647, 2, 2147483647,
-    3, 2147483647, 7, 2147483647, 46341, 2147483647, 65537, 2147483647, 1073741823, 2147483647,
-    1073741824, 2147483647, 1234567890, 2147483647, 2147483645, 2147483647, 2147483646,
+// A prime and a number to invert.
+const PAIRS: [(u32, u32); 20] = [
+    (2, 1),
+    (3, 1),
+    (3, 2),
+    (7, 1),
+    (7, 2),
+    (7, 3),
+    (7, 4),
+    (7, 5),
+    (7, 6),
+    (2147483647, 1),
+    (2147483647, 2),
+    (2147483647, 3),
+    (2147483647, 7),
+    (2147483647, 46341),
+    (2147483647, 65537),
+    (2147483647, 1073741823),
+    (2147483647, 1073741824),
+    (2147483647, 1234567890),
+    (2147483647, 2147483645),
+    (2147483647, 2147483646),
 ];
 
 fn print(rt: &impl Print, n: u32) -> io::Result<()> {
@@ -40,48 +57,39 @@ fn show_prime(rt: &impl Print, n: u32) -> io::Result<()> {
 }
 
 // -a, 1 - a and 1 + a; then 1 and one to four times the square of a.
-fn show_sums(rt: &impl Print, m: field::Modulus, a: u32) -> io::Result<()>
-    requires { Ready m × (1 < m.p) × (a < m.p) }
+fn show_sums(rt: &impl Print, m: Modulus, a: u32) -> io::Result<()>
+    requires { (1 < m.p) × (a < m.p) }
 {
-    print(rt, field::neg(m, a))?;
-    print(rt, field::sub(m, 1, a))?;
-    print(rt, field::add(m, 1, a))?;
-    print(rt, field::mul_add(m, 1, a, a))?;
-    print(rt, field::mul_add_2(m, 1, a, a, a, a))?;
-    print(rt, field::mul_add_3(m, 1, a, a, a, a, a, a))?;
-    print(rt, field::mul_add_4(m, 1, a, a, a, a, a, a, a, a))
+    print(rt, m.neg(a))?;
+    print(rt, m.sub(1, a))?;
+    print(rt, m.add(1, a))?;
+    print(rt, m.mul_add(1, a, a))?;
+    print(rt, m.plus_products(1, &[a; 2], &[a; 2]))?;
+    print(rt, m.plus_products(1, &[a; 3], &[a; 3]))?;
+    print(rt, m.plus_products(1, &[a; 4], &[a; 4]))
 }
 
 // p, a, 1/a and a times 1/a, then the sums.
 fn show_inverse(rt: &impl Print, p: u32, a: u32) -> io::Result<()> {
-    if p > 2147483647 {
+    if p > 2147483647 || a == 0 || a >= p || !primes::is_prime(p) {
         return Ok(());
     }
-    if a == 0 {
-        return Ok(());
-    }
-    if a >= p {
-        return Ok(());
-    }
-    if !primes::is_prime(p) {
-        return Ok(());
-    }
-    let m = field::Modulus::new(p);
-    let i = field::inverse(m, a);
+    let m = Modulus::new(p);
+    let i = m.inverse(a);
     print(rt, p)?;
     print(rt, a)?;
     print(rt, i)?;
-    print(rt, field::mul(m, a, i))?;
+    print(rt, m.mul(a, i))?;
     show_sums(rt, m, a)?;
     println!(rt; "")
 }
 
 fn main(rt: HostRuntime) -> io::Result<()> {
-    for k in 0..47 {
-        show_prime(&rt, NUMBERS[k])?;
+    for n in NUMBERS {
+        show_prime(&rt, n)?;
     }
-    for k in 0..20 {
-        show_inverse(&rt, PAIRS[2 * k], PAIRS[2 * k + 1])?;
+    for (p, a) in PAIRS {
+        show_inverse(&rt, p, a)?;
     }
     Ok(())
 }

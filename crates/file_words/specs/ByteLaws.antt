@@ -1,6 +1,8 @@
 -- Laws of words in bytes.
-use Rattle.std.specs.Prelude.{Bool, true, false, ◌≡◌, refl, List, [], ◌∷◌, ◌++◌, ℕ, suc, ◌+◌, ◌*◌, ◌/◌, ◌%◌, ◌<◌, ◌≤◌, length, drop, set}
+use Rattle.std.specs.Prelude.{Bool, true, false, ◌≡◌, refl, List, [], ◌∷◌, ◌++◌, ℕ, suc, ◌+◌, ◌*◌, ◌/◌, ◌%◌, ◌-◌, ◌<◌, ◌≤◌, length, take, drop, set}
 use Rattle.std.proofs.Common.{sym, ap, ap₂, ◌∙◌, append_assoc, append-nil, arith, length-append, drop_of_length-le}
+use borrow.Rule.Slice.PartMut.{put_mid, Post-is}
+use Rattle.std.specs.Int.{to_le_bytes, w32}
 use Rattle.algebra.specs.Generators.{pick}
 use Rattle.lists.specs.Lists.{tabulate, put_at}
 use Rattle.lists.specs.ListLaws.{length_tabulate}
@@ -29,6 +31,17 @@ put_four at w d {a} {b} {c} {e} h l qa qb qc qe =
 
     fourth : w / 16777216 ≡ w / 256 / 256 / 256 % 256
     fourth = omega arith
+
+-- the same of the bytes as std gives them
+four_bytes : (w : ℕ) → to_le_bytes w32 w ≡ tabulate 4 (byte_of w)
+four_bytes w =
+    let b : w / 65536 % 256 ≡ w / 256 / 256 % 256 = omega arith in
+    let c : w / 16777216 % 256 ≡ w / 256 / 256 / 256 % 256 = omega arith in
+    rw (← b, ← c) refl
+
+pub put_bytes : (at w : ℕ) (d : List ℕ) {ys : List ℕ} → ys ≡ to_le_bytes w32 w → put_mid at (at + 4 - at) d ys ≡ put_at at 4 (byte_of w) d
+unfolding put_at
+put_bytes at w d e = ap₂ (λ (x y : List ℕ). take at d ++ (x ++ y)) (e ∙ four_bytes w) (Post-is at (at + 4) d (omega arith))
 
 -- a word that is x where it is used, else 0
 module _ {b : Bool} (x : ℕ) {v : ℕ} where

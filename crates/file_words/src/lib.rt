@@ -7,22 +7,13 @@ ghost use Rattle.lists.specs.Lists.{tabulate, put_at};
 ghost use Rattle.lists.specs.Index.{farthest};
 ghost use Rattle.table.specs.RowFile.{file_word, byte_of, bytes_of};
 
-// A byte as a word.
-fn wide(x: u8) -> u32
-    ensures { (result ≡ x) × (result < 256) }
-{
-    x as u32
-}
-
 // Word i of the bytes f.
 pub fn word(f: &[u8], i: usize) -> u32
     requires { 4 * i + 4 ≤ length f.now }
     ensures { result ≡ file_word f.now i }
 {
     let at = 4 * i;
-    let low = wide(f[at]) + 256 * wide(f[at + 1]);
-    let high = wide(f[at + 2]) + 256 * wide(f[at + 3]);
-    low + 65536 * high
+    u32::from_le_bytes([f[at], f[at + 1], f[at + 2], f[at + 3]])
 }
 
 // The bytes of a word, to byte `at` on.
@@ -30,10 +21,7 @@ pub fn put_word(out: &mut [u8], at: usize, w: u32)
     requires { at + 4 ≤ length out.old }
     ensures { out.new ≡ put_at at 4 (byte_of w) out.old }
 {
-    out[at] = (w % 256) as u8;
-    out[at + 1] = (w / 256 % 256) as u8;
-    out[at + 2] = (w / 65536 % 256) as u8;
-    out[at + 3] = (w / 16777216) as u8;
+    out[at..at + 4].copy_from_slice(&w.to_le_bytes());
 }
 
 // n words of f from word `from` on, where they are used, else zeros, to out from `at` on.
@@ -41,10 +29,8 @@ pub fn read_words(used: bool, out: &mut [u32], at: usize, n: usize, f: &[u8], fr
     requires { (n ≤ farthest) × (from ≤ farthest) × (at + n ≤ length out.old) × (4 * (from + n) ≤ length f.now) }
     ensures { out.new ≡ put_at at n (λ j. pick used (file_word f.now (from + j)) 0) out.old }
 {
-    let mut j = 0;
-    while j < n {
+    for j in 0..n {
         out[at + j] = if used { word(f, from + j) } else { 0 };
-        j += 1;
     }
 }
 
@@ -54,11 +40,7 @@ pub fn write_words(used: bool, out: &mut [u8], at: usize, n: usize, t: &[u32], f
     ensures { (pre d : List ℕ) → length pre ≡ 4 * at → out.old ≡ pre ++ drop (4 * at) d
         → out.new ≡ (pre ++ bytes_of (tabulate n (λ j. pick used (get_or t.now (from + j) 0) 0))) ++ drop (4 * (at + n)) d }
 {
-    let mut to = 4 * at;
-    let mut j = 0;
-    while j < n {
-        put_word(out, to, if used { t[from + j] } else { 0 });
-        to += 4;
-        j += 1;
+    for j in 0..n {
+        put_word(out, 4 * (at + j), if used { t[from + j] } else { 0 });
     }
 }

@@ -3,16 +3,16 @@ use Rattle.std.specs.Prelude.{◌≡◌, List, ℕ, ◌≤◌, length}
 use Rattle.std.proofs.Common.{sym, ap, ◌∙◌, arith}
 use Rattle.table.specs.Words.{table}
 use Rattle.table.specs.RowFile.{head_p, head_n, head_r, head_s}
-use Rattle.table.specs.Replies.{Reply, reply, Accepted}
+use Rattle.table.specs.Replies.{Reply, Accepted, accept}
 use Rattle.table.specs.Calls.{read_reply, read_after, read_t}
 use Rattle.table.proofs.AcceptsProof.{read_accepts}
 use Rattle.table.proofs.FileLaws.{reads_file}
 use Rattle.table.proofs.UndertakingsProof.{lengths, values}
 use Rattle.check_numbers.specs.Passed.{Good}
 
-module _ (f d : List ℕ) (number buffer row value : ℕ) (answered : reply number buffer row value ≡ read_reply f d) (none : number ≡ 0) where
+module _ (f d : List ℕ) (p : ℕ) (answered : accept p ≡ read_reply f d) where
   accepted : Accepted (read_reply f d)
-  accepted = ap (λ (y : Reply). y.number) (sym answered) ∙ none
+  accepted = ap (λ (y : Reply). y.number) (sym answered)
 
   pub read_head : 20 ≤ length f
   read_head = ((read_accepts f d).0 accepted).0
@@ -29,8 +29,8 @@ module _ (f d : List ℕ) (number buffer row value : ℕ) (answered : reply numb
   }
 
   -- the reply's value is the prime
-  value_prime : value ≡ head_p f
+  value_prime : p ≡ head_p f
   value_prime = ap (λ (y : Reply). y.value) (answered ∙ (values (head_p f) (head_n f) (read_t f d)).read f d accepted)
 
-  pub read_good : (n r s : ℕ) (out : List ℕ) → n ≡ head_n f → r ≡ head_r f → s ≡ head_s f → out ≡ read_after f d → Good value n (table r s out)
+  pub read_good : (n r s : ℕ) (out : List ℕ) → n ≡ head_n f → r ≡ head_r f → s ≡ head_s f → out ≡ read_after f d → Good p n (table r s out)
   read_good n r s out en er es e = rw (value_prime, en, er, es, e) left_good

@@ -3,11 +3,10 @@
 #![tactic(auto)]
 
 ghost use Rattle.std.specs.Prelude.{◌≤◌, length};
-ghost use Rattle.field.specs.Ready.{Ready};
 ghost use Rattle.table.specs.Words.{table as tab};
 ghost use Rattle.check_numbers.specs.Passed.{Good};
 
-use check_numbers::Reply;
+use check_numbers::Refusal;
 use field::Modulus;
 use std::io::{self, Read, Write};
 
@@ -18,9 +17,9 @@ fn show(rt: &impl Print, line: &[u8], n: usize) -> io::Result<()>
     io::writer(rt).write_all(&line[..n])
 }
 
-fn show_refusal(rt: &impl Print, y: Reply) -> io::Result<()> {
+fn show_refusal(rt: &impl Print, refusal: Refusal) -> io::Result<()> {
     let mut line = [0u8; 128];
-    let n = listing::refusal_line(&mut line, y.number, y.buffer, y.row);
+    let n = listing::refusal_line(&mut line, refusal.number(), refusal.buffer(), refusal.row());
     show(rt, &line, n)
 }
 
@@ -33,16 +32,14 @@ fn show_rows(
     s: usize,
     table: &[u32],
 ) -> io::Result<()>
-    requires { Ready m × Good m.p n (tab r s table.now) }
+    requires { Good m.p n (tab r s table.now) }
 {
     let mut row = [0u32; 1024];
     let mut line = [0u8; 11265];
-    let mut i = 0;
-    while i < n {
+    for i in 0..n {
         call_entry::matrix_row(m, n, r, s, table, i, &mut row[..n]);
         let end = listing::row_line(&mut line, &row, n);
         show(rt, &line, end)?;
-        i += 1;
     }
     Ok(())
 }
@@ -58,24 +55,25 @@ fn show_table(rt: &impl Print, p: u32, n: u32, r: u32, s: u32, table: &[u32]) ->
     show_rows(rt, m, n as usize, r as usize, s as usize, table)?;
     let mut inverses = [0u32; 1024];
     let zero = sweep_pivot::first_zero(m, n as usize, r as usize, s as usize, table, &mut inverses);
-    let last = listing::last_line(&mut line, zero as u32);
+    let last = listing::last_line(&mut line, zero.map(|k| k as u32 + 1));
     show(rt, &line, last)
 }
 
 // The listing of a file: at most 41,492 bytes, whose table has at most 10,368 words.
 fn list(rt: &impl Print, file: &[u8]) -> io::Result<()> {
     if 41492 < file.len() {
-        return show_refusal(rt, check_numbers::refuse(9, 6, 0));
+        return show_refusal(rt, Refusal::Length);
     }
     let mut table = [0u32; 10368];
-    let y = call_file::read(file, &mut table);
-    if y.number != 0 {
-        return show_refusal(rt, y);
+    match call_file::read(file, &mut table) {
+        Ok(p) => {
+            let n = file_words::word(file, 1);
+            let r = file_words::word(file, 2);
+            let s = file_words::word(file, 3);
+            show_table(rt, p, n, r, s, &table)
+        }
+        Err(refusal) => show_refusal(rt, refusal),
     }
-    let n = file_words::word(file, 1);
-    let r = file_words::word(file, 2);
-    let s = file_words::word(file, 3);
-    show_table(rt, y.value, n, r, s, &table)
 }
 
 // Reads until the file's room is full, the input ends or cannot be read, and returns how many bytes were read.

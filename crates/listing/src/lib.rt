@@ -1,7 +1,7 @@
 // The lister's lines, put into a lent buffer: each function puts its text from `at` on and returns where it ends.
 #![tactic(auto)]
 
-ghost use Rattle.std.specs.Prelude.{[], ◌++◌, ◌+◌, ◌*◌, ◌≤◌, eqb, length};
+ghost use Rattle.std.specs.Prelude.{[], ◌++◌, ◌+◌, ◌*◌, ◌≤◌, eqb, length, unwrap_or};
 ghost use Rattle.algebra.specs.Generators.{pick};
 ghost use Rattle.table.specs.Replies.{refuse};
 ghost use Rattle.table.specs.Lister.{text, decimal, refusal};
@@ -13,13 +13,9 @@ pub fn put_text(out: &mut [u8], at: usize, t: &[u8]) -> usize
     requires { at + length t.now ≤ length out.old }
     ensures { Puts at t.now out.old out.new result }
 {
-    let n = t.len();
-    let mut j = 0;
-    while j < n {
-        out[at + j] = t[j];
-        j += 1;
-    }
-    at + n
+    let end = at + t.len();
+    out[at..end].copy_from_slice(t);
+    end
 }
 
 // The decimal digits of x, at most ten.
@@ -75,23 +71,22 @@ pub fn row_line(out: &mut [u8], row: &[u32], n: usize) -> usize
     ensures { Puts 0 (row_line n row.now) out.old out.new result × (result ≤ 11 * n + 1) }
 {
     let mut at = 0;
-    let mut j = 0;
-    while j < n {
+    for j in 0..n {
         at = put_word(out, at, j, row[j]);
-        j += 1;
     }
     put_text(out, at, b"\n")
 }
 
-// The last line: whether there is a zero pivot, and its row.
-pub fn last_line(out: &mut [u8], zero: u32) -> usize
+// The last line: whether there is a zero pivot, and its row, which is given from 1.
+pub fn last_line(out: &mut [u8], zero: Option<u32>) -> usize
     requires { 128 ≤ length out.old }
-    ensures { Puts 0 (last_line_of zero) out.old out.new result × (result ≤ 128) }
+    ensures { Puts 0 (last_line_of (unwrap_or zero 0)) out.old out.new result × (result ≤ 128) }
 {
-    if zero == 0 {
+    let row = zero.unwrap_or(0);
+    if row == 0 {
         return put_text(out, 0, b"regular\n");
     }
-    let end = put_named(out, 0, b"singular ", zero);
+    let end = put_named(out, 0, b"singular ", row);
     put_text(out, end, b"\n")
 }
 

@@ -1,5 +1,5 @@
 -- Lists by their words, and by rows.
-use Rattle.std.specs.Prelude.{Bool, true, false, ◌||◌, List, [], ◌∷◌, ◌++◌, ℕ, zero, suc, ◌+◌, length, take, drop}
+use Rattle.std.specs.Prelude.{Bool, true, false, ◌||◌, List, [], ◌∷◌, ◌++◌, Option, Some, None, ℕ, zero, suc, ◌+◌, length, take, drop}
 
 -- f 0, f 1, .., f (n - 1)
 abbrev pub tabulate {ℓ} : {X : Type ℓ} → ℕ → (ℕ → X) → List X
@@ -20,6 +20,11 @@ some (suc n) f = some n f || f n
 unfoldable pub first_of : ℕ → (ℕ → Bool) → ℕ → ℕ
 first_of zero f at = 0
 first_of (suc n) f at = elim (f at) [ true ↦ suc at | false ↦ first_of n f (suc at) ]
+
+-- what a search found, counted as `first_of` counts: one more than the place, 0 where there is none
+abbrev pub counted : Option ℕ → ℕ
+counted None = 0
+counted (Some k) = suc k
 
 -- a buffer that held d, with ys written at its start
 abbrev pub over {ℓ} : {X : Type ℓ} → List X → List X → List X

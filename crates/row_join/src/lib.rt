@@ -4,7 +4,6 @@
 ghost use Rattle.std.specs.Prelude.{◌≡◌, ◌++◌, ℕ, ◌+◌, ◌*◌, ◌/◌, ◌%◌, ◌<◌, ◌≤◌, length};
 ghost use Rattle.algebra.specs.Sums.{join};
 ghost use Rattle.algebra.specs.Generators.{pick};
-ghost use Rattle.field.specs.Ready.{Ready};
 ghost use Rattle.lists.specs.Lists.{put_at};
 ghost use Rattle.lists.specs.Index.{farthest};
 ghost use Rattle.row_words.specs.Rows.{words_at, Appends};
@@ -51,7 +50,7 @@ fn put_line(
     row2: &[u32],
     h2: Half,
 )
-    requires { Ready m × (i < h1.order + h2.order) × (h1.order + h2.order ≤ 8)
+    requires { (i < h1.order + h2.order) × (h1.order + h2.order ≤ 8)
         × (at + (h1.order + h2.order) ≤ length out.old) × Lies row1.now h1 × Lies row2.now h2 }
     ensures { out.new
         ≡ put_at at (h1.order + h2.order) (joined_block m.p outer row1.now h1 row2.now h2 i) out.old }
@@ -79,7 +78,7 @@ fn put_corners(
     row2: &[u32],
     h2: Half,
 )
-    requires { Ready m × (h1.order + h2.order ≤ 8)
+    requires { (h1.order + h2.order ≤ 8)
         × (at + (h1.order + h2.order) * (h1.order + h2.order) ≤ length out.old)
         × Lies row1.now h1 × Lies row2.now h2 }
     ensures { out.new ≡ put_at at ((h1.order + h2.order) * (h1.order + h2.order))
@@ -91,16 +90,13 @@ fn put_corners(
         row_words::zero_words(out, at, o * o);
         return;
     }
-    let mut line = at;
-    let mut i = 0;
-    while i < o {
-        put_line(m, outer, out, line, i, row1, h1, row2, h2);
-        line += o;
-        i += 1;
+    for i in 0..o {
+        put_line(m, outer, out, at + i * o, i, row1, h1, row2, h2);
     }
 }
 
-// Two halves joined, to `at` on: the row of the first, then words of x from `e` on; the block; words of y from `f` on, then the column of the second.
+// Two halves joined, to `at` on: the row of the first, then words of x from `e` on; the block; words of y from `f` on, then the column
+// of the second.
 // `first` and `last` say whether the row and the column are used; the block is where both are.
 pub fn put_half(
     m: Modulus,
@@ -118,7 +114,7 @@ pub fn put_half(
     y: &[u32],
     f: usize,
 )
-    requires { Ready m × (h1.order + h2.order ≤ 8) × (at ≤ farthest) × (e ≤ farthest) × (f ≤ farthest)
+    requires { (h1.order + h2.order ≤ 8) × (at ≤ farthest) × (e ≤ farthest) × (f ≤ farthest)
         × (at + joined_size h1 h2 ≤ length out.old)
         × Lies row1.now h1 × Lies row2.now h2 × (e + h2.order ≤ length x.now) × (f + h1.order ≤ length y.now) }
     ensures { Appends at (joined_size h1 h2)

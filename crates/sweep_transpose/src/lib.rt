@@ -52,12 +52,8 @@ pub fn transpose(n: usize, r: usize, s: usize, t: &[u32], res: &mut [u32])
         → res.new ≡ begun (n * width r s) (transpose_w p n (table r s t.now)) res.old }
 {
     let w = check_numbers::row_width(r, s);
-    let mut at = 0;
-    let mut k = 0;
-    while k < n {
-        let end = at + w;
-        transpose_row(n, r, s, k, &t[at..end], &mut res[at..end]);
-        at = end;
-        k += 1;
+    for k in 0..n {
+        let row = &t[k * w..(k + 1) * w];
+        transpose_row(n, r, s, k, row, &mut res[k * w..(k + 1) * w]);
     }
 }

@@ -11,7 +11,7 @@ use Rattle.call_dense.proofs.solve_words.Goals as goal
 -- what is asked at the start
 given : (s : Start) → let a = s.args in
     Given a.m.p a.n (table a.r a.s a.table.now) a.column.now a.square.now
-given s = let q = s.requires in record { pos = q.0.pos; good = q.1; long_column = q.3; below = q.4; room_square = q.5 }
+given s = let q = s.requires in record { pos = s.args.m.fit.pos; good = q.0; long_column = q.2; below = q.3; room_square = q.4 }
 
 -- the contexts before: from the written square back to the copied column, and to the start
 abbrev copying : After-matrix_rows → After-copy
@@ -32,9 +32,8 @@ solve-found-requires c =
     let w = (goal.at.solve-found-requires c).After-matrix_rows in
     let q = (start w).requires in
     let g = given (start w) in (
-      q.0,
-      q.1.prime,
-      q.2,
+      q.0.prime,
+      q.1,
       square_good g w.matrix_rows.ensures,
       column_good g _ _ (copying w).copy.ensures (omega arith),
     )
@@ -59,7 +58,7 @@ pub slice_bounds-copy-end-3 : goal.slice_bounds-copy-end-3
 slice_bounds-copy-end-3 c =
     let s = (goal.at.slice_bounds-copy-end-3 c).After-solve-found in
     let w = writing s in
-    back_room (given (start w)) _ (answer s) (omega (arith, (start w).requires.2)) s.solve-found.ensures.square_after.1
+    back_room (given (start w)) _ (answer s) (omega (arith, (start w).requires.1)) s.solve-found.ensures.square_after.1
 
 pub returns : goal.returns
 unfolding nonsingular_w
@@ -72,7 +71,7 @@ returns c =
     let f = not-false _ (ap not c.if-not-found.false) in
     let z = u.value _ _ (square_holds g e) (column_holds g _ _ (copying w).copy.ensures) in
     let d = (start w).args.res.now in
-    let out = result_leaves g _ (answer s) (omega (arith, (start w).requires.2)) u.square_after.1 d (z.1 f) c.copy-2.ensures in
+    let out = result_leaves g _ (answer s) (omega (arith, (start w).requires.1)) u.square_after.1 d (z.1 f) c.copy-2.ensures in
     record {
       value = sym f ∙ z.0;
       square_after = square_leaves g e u.square_after.0;

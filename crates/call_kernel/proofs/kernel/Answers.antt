@@ -1,58 +1,46 @@
 -- `call_kernel::kernel` meets its contract.
-use Rattle.std.proofs.Common.{◌≡◌, refl, ◌<◌, arith}
+use Rattle.std.specs.Prelude.{Ok, Err, suc, ◌+◌}
+use Rattle.std.proofs.Common.{◌≡◌, refl, ◌∙◌, arith, ap}
 use Rattle.table.specs.Words.{table}
-use Rattle.check_numbers.specs.Replied.{replied}
-use Rattle.check_numbers.specs.CheckLaws.{reply_is}
+use Rattle.table.specs.Replies.{accept}
+use Rattle.check_numbers.specs.CheckLaws.{answered}
+use Rattle.check_steps.specs.StepLaws.{refuses, handed}
 use Rattle.call_kernel.specs.KernelLaws.{Checked, stopped, loan, fits, ready, regular, written}
-use Rattle.call_kernel.proofs.kernel.Goals.{After-check_result-y, After-kernel-row}
+use Rattle.call_kernel.proofs.kernel.Goals.{In_ok-check_result}
 use Rattle.call_kernel.proofs.kernel.Goals as goal
 
--- the reply of the checks before the pivots
-checked : (c : After-check_result-y) → let a = c.args in let y = c.check_result-y.result in
-    Checked a.p a.n (table a.r a.s a.table.now) a.res.now (replied y)
-checked c = record { is = c.check_result-y.ensures c.args.res.now refl }
+-- the checks before the pivots pass
+checked : (c : In_ok-check_result) → let a = c.args in Checked a.p a.n (table a.r a.s a.table.now) a.res.now (accept 0)
+checked c = record { is = answered _ (Ok tt) (c.in_ok-check_result.ensures c.args.res.now refl) }
 
--- where the sweeps are done: the checks before, and the modulus
-abbrev checking : After-kernel-row → After-check_result-y
-checking c = (goal.at.After-kernel-row c).After-check_result-y
-
-passed : (c : After-kernel-row) → (checking c).check_result-y.result.number ≡ 0
-passed c = c.if-y-ne0.false
-
-modulus_is : (c : After-kernel-row) → c.new-m.result.p ≡ (checking c).args.p
-modulus_is c = c.new-m.ensures.0
-
-pub returns-then-y-ne0 : goal.returns-then-y-ne0
-returns-then-y-ne0 c = let parts = stopped (checked (goal.at.returns-then-y-ne0 c).After-check_result-y) c.if-y-ne0.true in record {
-  result_value = parts.0;
-  res_after = parts.1;
-}
-
-pub new-m-requires : goal.new-m-requires
-new-m-requires c = fits (checked (goal.at.new-m-requires c).After-check_result-y) c.if-y-ne0.false
-
-pub kernel-row-requires : goal.kernel-row-requires
-kernel-row-requires c = let m = c.new-m.ensures in
-    let k = checked (goal.at.kernel-row-requires c).After-check_result-y in
-    let ok = c.if-y-ne0.false in
-    (m.1, ready k ok m.0, (loan k ok).2)
-
-pub returns-then-row-eq0 : goal.returns-then-row-eq0
-returns-then-row-eq0 c = let k = (goal.at.returns-then-row-eq0 c).After-kernel-row in
-    let parts = regular (checked (checking k)) (passed k) (modulus_is k) k.kernel-row.ensures.0 k.kernel-row.ensures.2 c.if-row-eq0.true
-    (reply_is c.refuse.ensures) in record {
-      result_value = parts.0;
+pub returns-in_err-check_result : goal.returns-in_err-check_result
+returns-in_err-check_result c = let a = c.args in
+    let no : Checked a.p a.n (table a.r a.s a.table.now) a.res.now _ = record {
+      is = answered _ (Err c.in_err-check_result.field-0.0) (c.in_err-check_result.ensures a.res.now refl);
+    } in
+    let parts = stopped no (refuses c.in_err-check_result.field-0.0) in record {
+      result_value = handed _ _ c.from_residual.ensures.1 ∙ parts.0;
       res_after = parts.1;
     }
 
-pub overflow_cast-row : goal.overflow_cast-row
-overflow_cast-row c =
-    let k = (goal.at.overflow_cast-row c).After-kernel-row in omega (arith, k.kernel-row.ensures.1, (loan (checked (checking k)) (passed k)).0.3)
+pub new-m-requires : goal.new-m-requires
+new-m-requires c = fits (checked (goal.at.new-m-requires c).In_ok-check_result) refl
 
-pub returns : goal.returns
-returns c = let k = (goal.at.returns c).After-kernel-row in
-    let found : 0 < k.kernel-row.result = omega (arith, c.if-row-eq0.false) in
-    let parts = written (checked (checking k)) (passed k) (modulus_is k) k.kernel-row.ensures.0 k.kernel-row.ensures.2 found (reply_is c.accept.ensures) in
+pub kernel-requires : goal.kernel-requires
+kernel-requires c = let k = checked (goal.at.kernel-requires c).In_ok-check_result in (ready k refl c.new-m.ensures, (loan k refl).2)
+
+pub returns-in-Some : goal.returns-in-Some
+returns-in-Some c =
+    let next : c.in-Some.k + 1 ≡ suc c.in-Some.k = omega arith in
+    let at = checked (goal.at.returns-in-Some c).In_ok-check_result in
+    let parts = written at refl c.new-m.ensures c.in-Some.ensures.row c.in-Some.ensures.left (omega arith) refl in record {
+      result_value = ap accept next ∙ parts.0;
+      res_after = parts.1;
+    }
+
+pub returns-in-None : goal.returns-in-None
+returns-in-None c =
+    let parts = regular (checked (goal.at.returns-in-None c).In_ok-check_result) refl c.new-m.ensures c.in-None.ensures.row c.in-None.ensures.left refl refl in
     record {
       result_value = parts.0;
       res_after = parts.1;

@@ -1,70 +1,34 @@
--- `check_file::check_read` meets its contract: the checks of the head by steps, then those of the file.
-use Rattle.std.proofs.Common.{lt-ltb, le-ltb, List, [], ◌∷◌, refl, sym, arith, ℕ}
+-- `check_file::check_read` meets its contract.
+use Rattle.std.specs.Prelude.{Result, Ok, Err, IsErrAnd, MatchResult, false, ◌≡◌, List, ℕ, ◌≤◌, length}
+use Rattle.std.proofs.Common.{le-ltb}
 use Rattle.table.specs.Limits.{standard}
-use Rattle.table.specs.Replies.{Check, check, refuse, bad_prime_of, bad_size_of, bad_order}
+use Rattle.table.specs.Replies.{Reply, answer, bad_prime_of, bad_size_of, bad_order}
 use Rattle.table.specs.RowFile.{head_p, head_n, head_r, head_s}
-use Rattle.check_numbers.specs.CheckLaws.{reply_is}
-use Rattle.check_steps.specs.Checked.{Checked}
-use Rattle.check_steps.specs.StepLaws.{here, next, last, first_stop, first_clear, first_pass}
-use Rattle.check_file.specs.FileLaws.{headed}
-use Rattle.check_file.proofs.check_read.Goals.{After-also-orders, After-word-s, Start}
+use Rattle.table.specs.Calls.{read_checks}
+use Rattle.check_numbers.specs.declared.Refusal.{Refusal}
+use Rattle.table.proofs.CallLaws.{AllClear}
+use Rattle.check_numbers.specs.Replied.{refused}
+use Rattle.check_steps.specs.StepLaws.{next}
+use Rattle.check_file.specs.FileChecks.{file_checks}
 use Rattle.check_file.proofs.check_read.Goals as goal
 
-module _ (s : Start) where
-  abbrev file : List ℕ
-  file = s.args.f.now
+-- there is a head and its numbers are right: what is left are the checks of the file
+module _ (f d : List ℕ) (l : 20 ≤ length f) (p : bad_prime_of standard.prime (head_p f) ≡ false) (n : bad_size_of standard.size (head_n f) ≡ false)
+    (o : bad_order standard.order (head_r f) (head_s f) ≡ false) where
+  all_right : AllClear (file_checks f d) → AllClear (read_checks f d)
+  all_right h = (le-ltb _ 20 l, (p, (n, (o, h))))
 
-  -- the checks of the head's numbers
-  abbrev head : List Check
-  head = check (bad_prime_of standard.prime (head_p file)) (refuse 1 0 0)
-      ∷ check (bad_size_of standard.size (head_n file)) (refuse 2 0 0)
-      ∷ check (bad_order standard.order (head_r file) (head_s file)) (refuse 3 6 0) ∷ []
+  one_wrong : (e : Refusal) → ((v : Reply) → refused e ≡ answer (file_checks f d) v) → (v : Reply) → refused e ≡ answer (read_checks f d) v
+  one_wrong e h v = next _ _ v (le-ltb _ 20 l) (next _ _ v p (next _ _ v n (next _ _ v o (h v))))
 
--- the head's words have been read
-abbrev read : After-also-orders → After-word-s
-read c = (goal.at.After-also-orders c).After-word-s
+-- what holds of a refusal that `?` hands on
+handed_on : (r : Result ℕ Refusal) (e : Refusal) (P : ℕ → Type 0) (Q : Refusal → Type 0) → IsErrAnd r (λ d. d ≡ e) → Q e → MatchResult r P Q
+handed_on (Ok v) e P Q h q = absurd h
+handed_on (Err d) e P Q h q = rw h q
 
-abbrev start : After-word-s → Start
-start c = (goal.at.After-word-s c).Start
-
-in_order : (c : After-also-orders) → Checked (head (start (read c))) c.also-orders.result
-in_order c =
-    let none = last (reply_is c.accept-accepted.ensures) in
-    let prime = c.also-prime.ensures [] refl none in
-    let size = c.also-size.ensures _ refl prime in
-    rw (
-      c.bad_prime.ensures,
-      c.bad_size.ensures,
-      c.bad_order.ensures,
-      c.head_prime-p.ensures,
-      c.word-n.ensures,
-      c.word-r.ensures,
-      c.word-s.ensures,
-    ) at (c.also-orders.ensures _ refl size)
-
-pub returns-then-f-lt20 : goal.returns-then-f-lt20
-returns-then-f-lt20 c = λ d l. here _ _ (lt-ltb _ _ c.if-f-lt20.true) (reply_is c.refuse.ensures)
-
-pub word-n-requires : goal.word-n-requires
-word-n-requires c = omega (arith, c.if-f-lt20.false)
-
-pub word-r-requires : goal.word-r-requires
-word-r-requires c = omega (arith, c.if-f-lt20.false)
-
-pub word-s-requires : goal.word-s-requires
-word-s-requires c = omega (arith, c.if-f-lt20.false)
-
-pub returns-then-orders-ne0 : goal.returns-then-orders-ne0
-returns-then-orders-ne0 c = λ d l. let w = read (goal.at.returns-then-orders-ne0 c).After-also-orders in
-    next _ _ _ (le-ltb _ _ w.if-f-lt20.false)
-    (first_stop (head (start w)) _ (in_order (goal.at.returns-then-orders-ne0 c).After-also-orders) c.if-orders-ne0.true _ _)
-
-pub check_file-requires : goal.check_file-requires
-check_file-requires c = let z = first_clear _ _ (in_order (goal.at.check_file-requires c).After-also-orders) refl c.if-orders-ne0.false in
-    let w = read (goal.at.check_file-requires c).After-also-orders in
-    let numbers = headed (file (start w)) _ _ _ w.word-n.ensures w.word-r.ensures w.word-s.ensures (z 1) (z 2) in
-    (numbers, sym w.head_prime-p.ensures)
+pub returns-in_err-check_file : goal.returns-in_err-check_file
+returns-in_err-check_file c d e = handed_on _ _ _ _ c.from_residual.ensures.1
+    (one_wrong c.args.f.now d c.if-f-lt20.false (cc) (cc) (cc) c.in_err-check_file.field-0.0 (c.in_err-check_file.ensures d e))
 
 pub returns : goal.returns
-returns c = λ d l. next _ _ _ (le-ltb _ _ (read (goal.at.returns c).After-also-orders).if-f-lt20.false)
-    (first_pass _ _ (in_order (goal.at.returns c).After-also-orders) refl c.if-orders-ne0.false _ _ (c.check_file.ensures d l))
+returns c d e = (c.head_prime-p.ensures, all_right c.args.f.now d c.if-f-lt20.false (cc) (cc) (cc) (c.in_ok-check_file.ensures d e))

@@ -1,22 +1,18 @@
 -- `check_words::bad_end_row` meets its contract.
-use Rattle.std.proofs.Common.{mul-le-mul, arith, get_or}
+use Rattle.std.proofs.Common.{ℕ, ◌≤◌, mul-le-mul, arith}
 use Rattle.check_numbers.specs.CheckLaws.{end_row}
+use Rattle.table.specs.Words.{width}
+use Rattle.check_words.specs.Given.{Gives}
 use Rattle.check_words.proofs.bad_end_row.Goals as goal
 
-pub overflow_mul-lower2 : goal.overflow_mul-lower2
-overflow_mul-lower2 c = omega (arith, mul-le-mul c.gap_order-lower2.ensures.1 c.gap_order-lower.ensures.1)
-
-pub bad_words-requires-2 : goal.bad_words-requires-2
-bad_words-requires-2 c = omega (arith, mul-le-mul c.gap_order-lower2.ensures.1 c.gap_order-lower.ensures.1)
-
-pub overflow_mul-upper : goal.overflow_mul-upper
-overflow_mul-upper c = omega (arith, mul-le-mul c.gap_order-upper.ensures.1 c.gap_order-upper2.ensures.1)
-
-pub bad_words-requires-5 : goal.bad_words-requires-5
-bad_words-requires-5 c = omega (arith, mul-le-mul c.gap_order-upper.ensures.1 c.gap_order-upper2.ensures.1)
-
 pub returns : goal.returns
-returns c =
-    end_row _ _ _ _ _ (λ e. get_or c.args.row.now e 0) c.gap_order-lower.ensures.0 c.gap_order-lower2.ensures.0 c.gap_order-upper.ensures.0
-    c.gap_order-upper2.ensures.0
-    c.bad_words-d.ensures c.bad_words.ensures c.bad_words-2.ensures c.bad_words-3.ensures c.bad_words-4.ensures c.bad_words-5.ensures c.bad_words-6.ensures
+returns g c w h =
+    let less : (m : ℕ) → m ≤ width c.args.r c.args.s → Gives (goal.F-post g c.args.word.now) m w = λ m q i x l. h i x (omega arith) in
+    end_row _ _ _ _ _ w c.gap_order-lower.ensures.0 c.gap_order-lower2.ensures.0 c.gap_order-upper.ensures.0 c.gap_order-upper2.ensures.0
+    (c.bad_given-d.ensures w (less _ (omega arith)))
+    (c.bad_given.ensures w (less _ (omega arith)))
+    (c.bad_given-2.ensures w (less _ (omega (arith, mul-le-mul c.gap_order-lower2.ensures.1 c.gap_order-lower.ensures.1))))
+    (c.bad_given-3.ensures w (less _ (omega arith)))
+    (c.bad_given-4.ensures w (less _ (omega arith)))
+    (c.bad_given-5.ensures w (less _ (omega (arith, mul-le-mul c.gap_order-upper.ensures.1 c.gap_order-upper2.ensures.1))))
+    (c.bad_given-6.ensures w (less _ (omega arith)))

@@ -1,36 +1,6 @@
--- `check_words::bad_words` meets its contract. The loop's invariant: `bad` is the search of the first k words.
-use Rattle.std.proofs.Common.{◌∙◌, zero-le, arith, le-leb}
-use borrow.Author.Tests.{lt-leb}
-use Rattle.check_numbers.specs.CheckLaws.{some_start, some_hit, some_miss, some_done}
-use Rattle.check_words.proofs.bad_words.Goals.{else-p-t, then-p-t}
+-- `check_words::bad_words` meets its contract.
+use Rattle.std.proofs.Common.{get_or, rules}
 use Rattle.check_words.proofs.bad_words.Goals as goal
 
-pub loop-k-init : goal.loop-k-init
-loop-k-init c = (zero-le, some_start _)
-
-pub overflow_add-at : goal.overflow_add-at
-overflow_add-at c = omega arith
-
-pub offset_bounds-t-at : goal.offset_bounds-t-at
-offset_bounds-t-at c = omega arith
-
-pub bounds-t-at : goal.bounds-t-at
-bounds-t-at c = omega arith
-
-pub overflow_add-k : goal.overflow_add-k
-overflow_add-k c = omega arith
-
-pub loop-k-smaller : goal.loop-k-smaller
-loop-k-smaller c = omega arith
-
-pub loop-k-preserved : goal.loop-k-preserved
-loop-k-preserved c = (
-  omega arith,
-  elim c.if-p-t.branch [
-    | then-p-t w ↦ w.bad-is ∙ some_hit _ _ (le-leb _ _ w.if-p-t.true)
-    | else-p-t w ↦ w.bad-is ∙ some_miss _ _ c.loop-k.invariant.1 (lt-leb _ _ w.if-p-t.false)
-  ],
-)
-
 pub returns : goal.returns
-returns c = some_done _ _ _ c.loop-k.invariant.1 c.loop-k.invariant.0 c.loop-k-test.false
+returns c = c.bad_given.ensures (λ i. get_or c.args.t.now i 0) (λ i x l p. search rules)

@@ -6,5 +6,5 @@ use Rattle.field_values.proofs.show_inverse.Goals as goal
 pub inverse-i-requires : goal.inverse-i-requires
 inverse-i-requires g c =
     let prime = is_prime_lem _ (sym c.is_prime.ensures ∙ c.if-not-is_prime.false) in
-    let p = c.new-m.ensures.0 in
-    (c.new-m.ensures.1, rw p prime, omega (arith, c.if-a-eq0.false), rw p (omega (arith, c.if-a-p.false)))
+    let p = c.new-m.ensures in
+    (rw p prime, omega (arith, c.if-a-eq0.false), rw p (omega (arith, c.if-a-p.false)))

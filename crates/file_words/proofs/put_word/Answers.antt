@@ -1,19 +1,7 @@
 -- `file_words::put_word` meets its contract.
-use Rattle.std.proofs.Common.{refl, arith, length-set, rules}
-use Rattle.file_words.specs.ByteLaws.{put_four}
+use Rattle.std.proofs.Common.{◌∙◌}
+use Rattle.file_words.specs.ByteLaws.{put_bytes}
 use Rattle.file_words.proofs.put_word.Goals as goal
 
-pub bounds-out-at-2 : goal.bounds-out-at-2
-bounds-out-at-2 c = simp length-set (omega arith)
-
-pub bounds-out-at-3 : goal.bounds-out-at-3
-bounds-out-at-3 c = simp length-set (omega arith)
-
-pub bounds-out-at-4 : goal.bounds-out-at-4
-bounds-out-at-4 c = simp length-set (omega arith)
-
-pub shape_of-out : goal.shape_of-out
-shape_of-out c = simp length-set refl
-
 pub returns : goal.returns
-returns c = put_four c.args.at c.args.w c.args.out.now c.requires (search rules) refl refl refl refl
+returns c = put_bytes c.args.at c.args.w c.args.out.now (c.copy_from_slice.ensures.after ∙ c.to_le_bytes.ensures)

@@ -1,5 +1,5 @@
 -- `row_record::read_row` meets its contract.
-use Rattle.std.proofs.Common.{◌≡◌, refl, ◌∙◌, ◌+◌, ◌*◌, arith, length, length-set}
+use Rattle.std.proofs.Common.{refl, ◌∙◌, ◌+◌, ◌*◌, arith}
 use Rattle.table.specs.Words.{place}
 use Rattle.table.specs.RowFile.{file_word}
 use Rattle.row_words.specs.PutLaws.{two_parts}
@@ -14,14 +14,3 @@ returns c p pos small =
     c.read_part.ensures c.read_part-2.ensures
     ∙ record_row p a.n a.r a.s a.k pos c.requires.0 (file_word a.part.now) 1 (λ κ i j. file_word a.part.now (1 + place a.r a.s κ i j)) (λ κ i j. refl) small
     c.word.result 2 (1 + upper) c.word.ensures refl (omega arith)
-
-pub read_part-requires : goal.read_part-requires
-read_part-requires c = let p = c.requires in (p.1, omega arith, simp length-set (omega arith), omega arith)
-
-pub read_part-requires-2 : goal.read_part-requires-2
-read_part-requires-2 c = let p = c.requires in
-    let l : length c.read_part.new.out ≡ length c.args.out.now = c.read_part.auto.out ∙ simp length-set in
-    (p.2, omega arith, omega arith, omega arith)
-
-pub shape_of-out : goal.shape_of-out
-shape_of-out c = c.read_part-2.auto.out ∙ c.read_part.auto.out ∙ simp length-set
